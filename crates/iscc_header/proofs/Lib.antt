@@ -1,0 +1,4 @@
+pub mod DifferingBits
+pub mod EachBelow
+pub mod KindFacts
+pub mod WorkedBits

@@ -1,0 +1,4 @@
+pub mod Bits
+pub mod Kinds
+pub mod Units
+pub mod Headers

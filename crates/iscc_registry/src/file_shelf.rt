@@ -1,0 +1,58 @@
+use reg_top::{FetchFault, Shelf};
+use std::io::{ErrorKind, Read};
+use std::rt::Files;
+use std::{fs, io};
+
+/// The files of the system, by their paths. It tells no content, and is trusted for it.
+#[derive(Drop)]
+pub struct FileShelf<'a, R> {
+    rt: &'a R,
+    faults: u64,
+}
+
+impl<'a, R> FileShelf<'a, R> {
+    pub fn new(rt: &'a R) -> FileShelf<'a, R> {
+        FileShelf { rt, faults: 0 }
+    }
+}
+
+impl<R: Files> Shelf for FileShelf<'_, R> {
+    ghost use Rattle.std.specs.Prelude.{None};
+
+    ghost files = { λ _. None };
+
+    ghost fetch_faults = { λ s. s.faults };
+
+    fn fetch(&mut self, name: &str, into: &mut Vec<u8>, limit: usize) -> Result<(), FetchFault> {
+        into.clear();
+        let read = read_file(self.rt, name, into, limit);
+        if read.is_ok() && into.len() <= limit {
+            return Ok(());
+        }
+        into.clear();
+        let fault = match read {
+            Ok(()) => FetchFault::TooLong,
+            Err(error) => fault_of(error.kind()),
+        };
+        if fault == FetchFault::Failed {
+            self.faults = self.faults.saturating_add(1);
+        }
+        Err(fault)
+    }
+}
+
+// What is refused, by the system's own word for it.
+fn fault_of(kind: ErrorKind) -> FetchFault {
+    match kind {
+        ErrorKind::NotFound => FetchFault::Missing,
+        ErrorKind::OutOfMemory => FetchFault::NoMemory,
+        _ => FetchFault::Failed,
+    }
+}
+
+// Reads the bytes of a file, or one more than the limit where it is longer.
+fn read_file<R: Files>(rt: &R, name: &str, into: &mut Vec<u8>, limit: usize) -> io::Result<()> {
+    let most = (limit as u64).saturating_add(1);
+    let _ = fs::open(rt, name)?.take(most).read_to_end(into)?;
+    Ok(())
+}

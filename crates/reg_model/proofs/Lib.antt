@@ -1,0 +1,5 @@
+pub mod LiveSteps
+pub mod WorkedRows
+pub mod WorkedRounds
+pub mod RowSteps
+pub mod Answered

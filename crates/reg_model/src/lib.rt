@@ -1,0 +1,32 @@
+//! The plain registry: the calls of a registry of ISCC units, the replies to them, the rows of a history,
+//! and a slow registry that says what they mean.
+//!
+//! It stands on `iscc_header`. Every desk above is compared with what stands here: `specs/Live.antt` says which
+//! declarations are live after a log of updates, `specs/Replies.antt` which reply a call may have, `specs/Rows.antt`
+//! which lists of rows are a lawful round, and `specs/Runs.antt` how rounds follow each other.
+//! `Plain` serves one call at a time, by the definitions; it is plain and stays so.
+#![tactic(auto)]
+
+mod call;
+mod carried;
+mod lists;
+mod plain;
+mod reply;
+mod sizes;
+mod start;
+mod update;
+
+pub use call::Call;
+pub use carried::Carried;
+pub use lists::{Hits, Items, Updates};
+pub use plain::Plain;
+pub use reply::{Answer, FullCause, Hit, Reply, Row};
+pub use sizes::Sizes;
+pub use start::StartFault;
+pub use update::{Declared, Update};
+
+/// The greatest radius of a query, in bits. With four substrings a radius of 15 leaves one of them within 3 bits.
+pub const RADIUS_MOST: u32 = 15;
+
+#[cfg(test)]
+mod tests;

@@ -1,0 +1,184 @@
+ghost use Rattle.std.specs.Prelude.{◌≡◌, ◌≤◌, ◌⊎◌, ◌<◌, [], ◌∷◌, ◌++◌, MatchResult, IfOk, Some, None, length, map, filter, vec_capacity, vec_len};
+ghost use Rattle.reg_model.specs.declared.call.Call.{Call};
+ghost use Rattle.reg_model.specs.Replies.{AreHits, hit_of, is_near};
+ghost use Rattle.reg_model.specs.Registry.{Serves, declare_reply, start_refusal};
+
+use crate::RADIUS_MOST;
+use crate::carried::Carried;
+use crate::lists::Hits;
+use crate::reply::{Answer, FullCause, Hit, Reply};
+use crate::sizes::Sizes;
+use crate::start::StartFault;
+use crate::update::{Declared, Update};
+use iscc_header::{NoMemory, Unit64, distance};
+use std::alloc::{AllocError, Global};
+use std::marker::Model;
+
+/// The slow registry: a log, and the list of the live declarations by id, served one call at a time.
+///
+/// A query looks at every live declaration. Contracts see the sizes, what the round began with, and the log.
+#[derive(Debug, Drop)]
+pub struct Plain {
+    sizes: Sizes,
+    base: u64,
+    carried: Vec<Declared>,
+    log: Vec<Update>,
+    live: Vec<Declared>,
+    // How many of the updates are withdrawals.
+    withdrawn: u64,
+}
+
+impl Model for Plain {
+    ghost use Rattle.std.specs.Prelude.{◌≤◌, vec_capacity};
+    ghost use Rattle.reg_model.specs.Registry.{Registry, IsCurrent};
+
+    ghost Value = { Registry };
+
+    ghost view = { λ p. record {
+      limits = p.sizes;
+      opening = record { base = p.base; list = p.carried.items };
+      log = p.log.items;
+    } };
+
+    ghost invariant = { λ p. IsCurrent
+        (record {
+          limits = p.sizes;
+          opening = record { base = p.base; list = p.carried.items };
+          log = p.log.items;
+        })
+        p.live.items
+        p.withdrawn
+        × (p.sizes.log ≤ vec_capacity p.log)
+        × (p.sizes.entries ≤ vec_capacity p.live) };
+}
+
+impl Plain {
+    /// A registry with this opening and no updates. Takes all memory that updates need.
+    ///
+    /// The faults are asked in the order of `StartFault`.
+    pub fn start(alloc: Global, sizes: &Sizes, carried: &Carried) -> Result<Plain, StartFault>
+        ensures start { IfOk result (λ plain. plain ≡ record { limits = sizes.now; opening = carried.now; log = [] }) }
+        ensures cause { MatchResult result
+            (λ _. start_refusal sizes.now carried.now ≡ None)
+            (λ fault. (fault ≡ StartFault.NoMemory) ⊎ (start_refusal sizes.now carried.now ≡ Some fault)) }
+    {
+        let list = carried.list();
+        let base = carried.base();
+        if list.len() as u64 > sizes.entries() as u64 {
+            return Err(StartFault::TooSmall {
+                live: list.len() as u64,
+                entries: sizes.entries(),
+            });
+        }
+        if base + sizes.log() as u64 > 1 << 34 {
+            return Err(StartFault::IdsSpent {
+                base,
+                log: sizes.log(),
+            });
+        }
+        let log = Vec::with_capacity(alloc, sizes.log() as usize)?;
+        let live = with_room(alloc, list, sizes.entries() as usize)?;
+        let carried = Vec::from_slice(alloc, list)?;
+        Ok(Plain {
+            sizes: *sizes,
+            base,
+            carried,
+            log,
+            live,
+            withdrawn: 0,
+        })
+    }
+
+    /// Declares a unit: an id of its own, or that the log or else the entries are full. Takes no memory.
+    pub fn declare(&mut self, unit: Unit64) -> Answer
+        ensures serves { Serves self.old (Call.Declare unit) result self.new }
+        ensures reply { result.reply ≡ declare_reply self.old }
+    {
+        let point = self.base + self.log.len() as u64;
+        if self.log.len() == self.sizes.log() as usize {
+            return Answer {
+                point,
+                reply: Reply::Full(FullCause::Log),
+            };
+        }
+        if self.live.len() == self.sizes.entries() as usize {
+            return Answer {
+                point,
+                reply: Reply::Full(FullCause::Entries {
+                    given: self.withdrawn,
+                }),
+            };
+        }
+        let copy = unit;
+        push_within(&mut self.live, Declared { id: point, unit });
+        push_within(&mut self.log, Update::Decl(copy));
+        Answer {
+            point: point + 1,
+            reply: Reply::Id(point),
+        }
+    }
+
+    /// The live declarations of the unit's kind whose bodies differ from its own in at most `radius` bits, by body and
+    /// then by id.
+    pub fn near(&self, alloc: Global, unit: Unit64, radius: u32) -> Result<Answer, NoMemory>
+        requires { radius ≤ RADIUS_MOST }
+        ensures { IfOk result (λ answer. Serves self.now (Call.Near unit radius) answer self.now) }
+    {
+        let hits = near_hits(alloc, &self.live, unit, radius)?;
+        Ok(Answer {
+            point: self.base + self.log.len() as u64,
+            reply: Reply::Hits(hits),
+        })
+    }
+}
+
+// Pushes where there is room, so that no memory is taken.
+fn push_within<T: Drop>(items: &mut Vec<T>, item: T)
+    requires { vec_len items.old < vec_capacity items.old }
+    ensures items { items.new.items ≡ items.old.items ++ item ∷ [] }
+    ensures capacity { vec_capacity items.old ≤ vec_capacity items.new }
+{
+    let _ = items.push(item);
+}
+
+// A copy of a list, with room for so many items in all.
+fn with_room(alloc: Global, list: &[Declared], room: usize) -> Result<Vec<Declared>, AllocError>
+    ensures items { IfOk result (λ copy. copy.items ≡ list.now) }
+    ensures room { IfOk result (λ copy. room ≤ vec_capacity copy) }
+{
+    let mut copy = Vec::with_capacity(alloc, room)?;
+    copy.extend_from_slice(list)?;
+    Ok(copy)
+}
+
+// The hits in their order.
+fn near_hits(alloc: Global, list: &[Declared], unit: Unit64, radius: u32) -> Result<Hits, NoMemory>
+    ensures { IfOk result (λ hits. AreHits list.now unit radius hits) }
+{
+    let mut hits = unsorted_hits(alloc, list, unit, radius)?;
+    hits.sort_by_key(|hit| (hit.body, hit.id))?;
+    Ok(Hits::from_vec(hits))
+}
+
+// The hits in the order of the list.
+fn unsorted_hits(
+    alloc: Global,
+    list: &[Declared],
+    unit: Unit64,
+    radius: u32,
+) -> Result<Vec<Hit>, AllocError>
+    ensures { IfOk result (λ hits. hits.items ≡ map (hit_of unit) (filter (is_near unit radius) list.now)) }
+{
+    let mut hits = Vec::new(alloc);
+    for declared in list {
+        let away = distance(unit.body, declared.unit.body);
+        if declared.unit.kind == unit.kind && away <= radius {
+            hits.push(Hit {
+                id: declared.id,
+                body: declared.unit.body,
+                distance: away,
+            })?;
+        }
+    }
+    Ok(hits)
+}

@@ -1,0 +1,99 @@
+-- The output of a small run, from the bytes of its file on.
+use Rattle.std.proofs.Common.{◌≡◌, ℕ, zero, suc, List, [], ◌∷◌, ◌++◌, Some, Option, unwrap_or, refl, ap, lit<, lit≤, arith}
+use Rattle.std.specs.Prelude.{codes, bytes_eq, if◌then◌else◌, None}
+use Rattle.std.specs.Fmt.{digits}
+use Rattle.iscc_header.specs.Bits.{bits_of}
+use Rattle.iscc_text.specs.UnitText.{unit_text}
+use Rattle.reg_model.specs.declared.call.Call.TheVariants as calls
+use Rattle.reg_model.specs.Runs.{RoundRows, IsHistory, nothing}
+use Rattle.reg_model.proofs.WorkedRows.{meta, usual, two_units, two_units_lawful}
+use Rattle.reg_top.specs.declared.items.Item.{Item}
+use Rattle.reg_top.specs.declared.items.Item.TheVariants as items
+use Rattle.reg_top.specs.Lines.{line}
+use Rattle.reg_top.specs.Requests.{AreItems}
+use Rattle.reg_top.specs.History.{history_text}
+use Rattle.reg_top.specs.Words.{RoundPlan}
+use Rattle.reg_top.specs.Output.{IsRunOutput, MakesCalls}
+
+abbrev pub file : List ℕ
+file = line (codes "declare ISCC:AAAQAAAAAAAAAAAA") ++ line (codes "declare ISCC:AAAQAAAAAAAAAAAB") ++ line (codes "near ISCC:AAAQAAAAAAAAAAAA 1")
+
+abbrev pub output : List ℕ
+output =
+    line (codes "replies 0 0")
+    ++ line (codes "id 0")
+    ++ line (codes "id 1")
+    ++ line (codes "hits 2 0,0,ISCC:AAAQAAAAAAAAAAAA 1,1,ISCC:AAAQAAAAAAAAAAAB")
+    ++ line (codes "iscc-history 1")
+    ++ line (codes "round 0 base 0 entries 4096 log 65536 callers 1")
+    ++ line (codes "0.0 @1 declare ISCC:AAAQAAAAAAAAAAAA = id 0")
+    ++ line (codes "0.1 @2 declare ISCC:AAAQAAAAAAAAAAAB = id 1")
+    ++ line (codes "0.2 @2 near ISCC:AAAQAAAAAAAAAAAA 1 = hits 2 0,0,ISCC:AAAQAAAAAAAAAAAA 1,1,ISCC:AAAQAAAAAAAAAAAB")
+    ++ line (codes "end 3 live 2")
+
+abbrev pub round : RoundRows
+round = record { limits = usual; rows = two_units }
+
+abbrev pub files : List ℕ → Option (List ℕ)
+files name = if bytes_eq name (codes "a.txt") then Some file else None
+
+abbrev pub asked : List Item
+asked = items.Call (calls.Declare (meta 0)) ∷ items.Call (calls.Declare (meta 1)) ∷ items.Call (calls.Near (meta 0) 1) ∷ []
+
+pub history : history_text nothing (round ∷ []) ≡
+    line (codes "iscc-history 1")
+    ++ line (codes "round 0 base 0 entries 4096 log 65536 callers 1")
+    ++ line (codes "0.0 @1 declare ISCC:AAAQAAAAAAAAAAAA = id 0")
+    ++ line (codes "0.1 @2 declare ISCC:AAAQAAAAAAAAAAAB = id 1")
+    ++ line (codes "0.2 @2 near ISCC:AAAQAAAAAAAAAAAA 1 = hits 2 0,0,ISCC:AAAQAAAAAAAAAAAA 1,1,ISCC:AAAQAAAAAAAAAAAB")
+    ++ line (codes "end 3 live 2")
+unfolding history_text unit_text bits_of digits
+history = refl
+
+abbrev pub plan : List RoundPlan
+plan = record { limits = usual; names = codes "a.txt" ∷ [] } ∷ []
+
+made : MakesCalls (asked ∷ []) round
+made zero list e = rw (← ap (λ o. unwrap_or o asked) e) refl
+made (suc k) list e = absurd (cc)
+
+lawful : IsHistory nothing (round ∷ [])
+lawful = record {
+  opens = record { base = lit≤ tt; rising = λ i j d lt low. absurd (omega arith); below = λ k d low. absurd (omega arith) };
+  some = lit≤ tt;
+  few = lit≤ tt;
+  lawful = (
+    record {
+      sizes = record { entries = (lit≤ tt, lit≤ tt); log = (lit≤ tt, lit≤ tt); bits = (lit≤ tt, lit≤ tt); callers = (lit≤ tt, lit≤ tt) };
+      room = lit≤ tt;
+      ids = lit≤ tt;
+      rows = two_units_lawful;
+    },
+    tt,
+  );
+}
+
+read : AreItems file asked
+unfolding unit_text bits_of digits
+read = (
+  (record { kind = lit< tt; body = lit< tt }, refl),
+  (
+    (record { kind = lit< tt; body = lit< tt }, refl),
+    (
+      ((record { kind = lit< tt; body = lit< tt }, lit≤ tt), refl),
+      tt,
+    ),
+  ),
+)
+
+pub run_output : IsRunOutput nothing plan files output
+unfolding history_text unit_text bits_of digits
+run_output = record {
+  items = (asked ∷ []) ∷ [];
+  rounds = round ∷ [];
+  read = (((file, refl, read), tt), tt);
+  sizes = refl;
+  calls = (made, tt);
+  lawful = lawful;
+  text = refl;
+}

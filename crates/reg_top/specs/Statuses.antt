@@ -1,0 +1,66 @@
+-- When the top call answers which status.
+use Rattle.std.specs.Prelude.{◌≡◌, ◌⊎◌, ℕ, ◌^◌, nat_le, if◌then◌else◌, List, [], ◌∷◌, length, Option, Some, None, IfSome}
+use Rattle.std.specs.List.{flat_map}
+use Rattle.reg_top.specs.declared.shelf.FetchFault.{FetchFault}
+use Rattle.reg_top.specs.declared.shelf.FetchFault.TheVariants.{Missing, TooLong}
+use Rattle.reg_top.specs.declared.status.Status.{Status}
+use Rattle.reg_top.specs.declared.status.Status.TheVariants as status
+use Rattle.reg_top.specs.Faults.{Quiet}
+use Rattle.reg_top.specs.Files.{Files}
+use Rattle.reg_top.specs.Words.{Command, RoundPlan, IsForm}
+use Rattle.reg_top.specs.Words.Command.{Run}
+
+-- The status comes only where P holds, and where P holds it comes, unless memory is wanting.
+pub record Exactly (result status : ℕ) (P : Type 0) : Type 0 where
+  pub only : result ≡ status → P
+  pub where_it_holds : P → (result ≡ status) ⊎ (result ≡ 6)
+
+-- no command has these words
+abbrev pub HasNoForm : List (List ℕ) → Type 0
+HasNoForm words = (command : Command) → IsForm words command → ⊥
+
+-- the names of the files that a run fetches, in order
+abbrev pub fetched_names : List RoundPlan → List (List ℕ)
+fetched_names plan = flat_map (λ round. round.names) plan
+
+-- a file that isn't there or is too long, and else what comes of the next
+abbrev pub refusal_then : ℕ → Option (List ℕ) → Option FetchFault → Option FetchFault
+refusal_then limit None next = Some Missing
+refusal_then limit (Some bytes) next = if nat_le (length bytes) limit then next else Some TooLong
+
+-- the first file that isn't there or is too long
+abbrev pub first_refusal : ℕ → Files → List (List ℕ) → Option FetchFault
+first_refusal limit files [] = None
+first_refusal limit files (name ∷ names) = refusal_then limit (files name) (first_refusal limit files names)
+
+-- the greatest length of a request file
+abbrev pub request_limit : ℕ
+request_limit = 2 ^ 24
+
+-- where the shelf tells its files: a run's first fetch that isn't Ok has this cause
+abbrev pub StopsBy : List (List ℕ) → Files → FetchFault → Type 0
+StopsBy words files fault = (plan : List RoundPlan) × IsForm words (Run plan) × (first_refusal request_limit files (fetched_names plan) ≡ Some fault)
+
+-- A status that tells a fault of a file: only where that file is the first to stop the run, and there, unless a fetch failed.
+pub record IsStopStatus (result status : ℕ) (words : List (List ℕ)) (files : Option Files) (fault : FetchFault) (before now : ℕ) : Type 0 where
+  pub only : result ≡ status → IfSome files (λ map. StopsBy words map fault)
+  pub where_it_holds : Quiet before now → IfSome files (λ map. StopsBy words map fault → (result ≡ status) ⊎ (result ≡ 6))
+
+-- accepted words, files that are there and in limit, and no fault: all is done, or memory is wanting
+abbrev pub IsDone : ℕ → List (List ℕ) → Option Files → Type 0
+IsDone result words files = (plan : List RoundPlan) → IsForm words (Run plan)
+    → IfSome files (λ map. first_refusal request_limit map (fetched_names plan) ≡ None → (result ≡ 0) ⊎ (result ≡ 6))
+
+-- the number of each status
+abbrev pub status_number : Status → ℕ
+status_number status.Done = 0
+status_number status.Words = 2
+status_number status.Missing = 3
+status_number status.Read = 4
+status_number status.Write = 5
+status_number status.Memory = 6
+status_number status.TooLong = 7
+
+-- the statuses there are
+abbrev pub statuses : List ℕ
+statuses = 0 ∷ 2 ∷ 3 ∷ 4 ∷ 5 ∷ 6 ∷ 7 ∷ []

@@ -1,0 +1,64 @@
+ghost use Rattle.std.specs.Prelude.{◌≡◌, ◌∷◌, ◌++◌, [], List, OnOk, IfOk, codes};
+ghost use Rattle.std.specs.Fmt.{decimal};
+ghost use Rattle.reg_top.specs.Lines.{line, spaced};
+ghost use Rattle.reg_top.specs.declared.items.Item.{Item as AnItem};
+ghost use Rattle.reg_top.specs.Output.{item_lines};
+
+use crate::items::Item;
+use crate::print::{kind_of, print_bad, print_reply, print_word, print_word_number};
+use iscc_header::NoMemory;
+use reg_model::{Call, Row};
+
+/// Appends the replies to a session: the line that names it, and a line for each item of its file. The rows are the
+/// session's, in order.
+pub(crate) fn print_replies(
+    round: u64,
+    session: u64,
+    items: &[Item],
+    rows: &[Row],
+    out: &mut Vec<u8>,
+) -> Result<(), NoMemory>
+    ensures { OnOk result (out.new.items ≡ out.old.items
+        ++ (line (spaced (codes "replies" ∷ decimal round ∷ decimal session ∷ [])) ++ item_lines items.now rows.now)) }
+{
+    print_word_number(b"replies ", round, out)?;
+    print_word_number(b" ", session, out)?;
+    print_word(b"\n", out)?;
+    let mut rest = rows;
+    for item in items {
+        rest = print_item(item, rest, out)?;
+    }
+    Ok(())
+}
+
+// Appends the line of an item, and gives the rows of the items behind it.
+fn print_item<'a>(item: &Item, rows: &'a [Row], out: &mut Vec<u8>) -> Result<&'a [Row], NoMemory>
+    ensures { IfOk result (λ rest. (list : List AnItem)
+        → out.new.items ++ item_lines list rest.now ≡ out.old.items ++ item_lines (item.now ∷ list) rows.now) }
+{
+    match item {
+        Item::Bad(why) => {
+            print_bad(*why, out)?;
+            print_word(b"\n", out)?;
+            Ok(rows)
+        }
+        Item::Call(call) => print_call_line(call, rows, out),
+    }
+}
+
+// Appends the reply to a call, which its row has.
+fn print_call_line<'a>(
+    call: &Call,
+    rows: &'a [Row],
+    out: &mut Vec<u8>,
+) -> Result<&'a [Row], NoMemory>
+    ensures { IfOk result (λ rest. (list : List AnItem)
+        → out.new.items ++ item_lines list rest.now ≡ out.old.items ++ item_lines (AnItem.Call call.now ∷ list) rows.now) }
+{
+    if rows.is_empty() {
+        return Ok(rows);
+    }
+    print_reply(&rows[0].reply, kind_of(call), out)?;
+    print_word(b"\n", out)?;
+    Ok(&rows[1..])
+}

@@ -1,0 +1,159 @@
+ghost use Rattle.std.specs.Prelude.{◌≡◌, ◌<◌, ◌≤◌, ◌^◌, [], List, ℕ, Some, IfOk, IsErr, MatchResult, All, length, map, count_by};
+ghost use Rattle.reg_model.specs.Rows.{is_accepted, IsLawful, session_rows};
+ghost use Rattle.reg_model.specs.Runs.{nothing};
+ghost use Rattle.reg_top.specs.Faults.{HasCause};
+ghost use Rattle.reg_top.specs.Files.{Files};
+ghost use Rattle.reg_top.specs.Requests.{IsRequest, calls_of as calls_asked};
+ghost use Rattle.reg_top.specs.Words.{plan_of};
+ghost use Rattle.reg_top.specs.Output.{IsRunOutput, TakesWhole, TakesPart};
+
+use crate::args::Args;
+use crate::cut::read_items;
+use crate::history::print_history;
+use crate::items::Item;
+use crate::replies::print_replies;
+use crate::serve::serve;
+use crate::shelf::{FetchFault, Shelf};
+use crate::sink::{Failed, Sink};
+use crate::status::Status;
+use crate::words::run_file;
+use iscc_header::NoMemory;
+use reg_model::{Call, Carried, Plain, Reply, Row, Sizes, StartFault};
+use std::alloc::Global;
+
+// The greatest length of a request file, in bytes.
+const REQUEST_MOST: usize = 1 << 24;
+
+// The sizes of a round whose words name none.
+const ENTRIES: u32 = 4096;
+
+const LOG: u32 = 65536;
+
+const BITS: u32 = 12;
+
+/// Does what the words say, and answers the status.
+pub fn top<F: Shelf, K: Sink>(alloc: Global, words: &Args, shelf: &mut F, sink: &mut K) -> u8 {
+    let status = match run_file(words) {
+        None => Status::Words,
+        Some(name) => run(alloc, name, shelf, sink),
+    };
+    status.number()
+}
+
+// Fetches the file, serves its calls, and writes the output.
+fn run<F: Shelf, K: Sink>(alloc: Global, name: &str, shelf: &mut F, sink: &mut K) -> Status {
+    match make_output(alloc, name, shelf) {
+        Err(status) => status,
+        Ok(output) => match write_all(sink, output.as_slice()) {
+            Ok(()) => Status::Done,
+            Err(Failed) => Status::Write,
+        },
+    }
+}
+
+// The whole output of a run, which is in memory before the first byte of it is written.
+fn make_output<F: Shelf>(alloc: Global, name: &str, shelf: &mut F) -> Result<Vec<u8>, Status> {
+    let mut file = Vec::new(alloc);
+    match shelf.fetch(name, &mut file, REQUEST_MOST) {
+        Ok(()) => match output_of(alloc, file.as_slice()) {
+            Ok(output) => Ok(output),
+            Err(NoMemory) => Err(Status::Memory),
+        },
+        Err(FetchFault::Failed) => Err(Status::Read),
+        Err(FetchFault::Missing) => Err(Status::Missing),
+        Err(FetchFault::TooLong) => Err(Status::TooLong),
+        Err(FetchFault::NoMemory) => Err(Status::Memory),
+    }
+}
+
+// The output of a run whose one file has these bytes.
+fn output_of(alloc: Global, file: &[u8]) -> Result<Vec<u8>, NoMemory>
+    requires { length file.now < 2 ^ 32 }
+    ensures { IfOk result (λ output. (files : Files) (name : List ℕ) → files name ≡ Some file.now
+        → IsRunOutput nothing (plan_of name) files output.items) }
+{
+    let items = read_items(alloc, file)?;
+    let sizes = Sizes::new(ENTRIES, LOG, BITS, 1).unwrap();
+    let rows = rows_of(alloc, &sizes, items.as_slice())?;
+    let mut output = Vec::new(alloc);
+    print_replies(0, 0, items.as_slice(), rows.as_slice(), &mut output)?;
+    // Nothing was carried and nothing is withdrawn, so each accepted row is a live declaration.
+    print_history(
+        &sizes,
+        rows.as_slice(),
+        accepted(rows.as_slice()),
+        &mut output,
+    )?;
+    Ok(output)
+}
+
+// The rows of a session that makes the calls of these items, in a round that begins with nothing.
+fn rows_of(alloc: Global, sizes: &Sizes, items: &[Item]) -> Result<Vec<Row>, NoMemory>
+    requires few { length (calls_asked items.now) < 2 ^ 32 }
+    requires known { All IsRequest (calls_asked items.now) }
+    requires callers { 1 ≤ sizes.now.callers }
+    ensures lawful { IfOk result (λ rows. IsLawful sizes.now nothing rows.items) }
+    ensures alone { IfOk result (λ rows. session_rows 0 rows.items ≡ rows.items) }
+    ensures calls { IfOk result (λ rows. map (λ row. row.call) rows.items ≡ calls_asked items.now) }
+{
+    let calls = calls_of(alloc, items)?;
+    let mut plain = start(alloc, sizes)?;
+    serve(alloc, &mut plain, calls.as_slice())
+}
+
+// The calls among the items, in order.
+fn calls_of(alloc: Global, items: &[Item]) -> Result<Vec<Call>, NoMemory>
+    ensures { IfOk result (λ calls. calls.items ≡ calls_asked items.now) }
+{
+    let mut calls = Vec::new(alloc);
+    for item in items {
+        if let Item::Call(call) = item {
+            calls.push(*call)?;
+        }
+    }
+    Ok(calls)
+}
+
+// How many rows are accepted.
+fn accepted(rows: &[Row]) -> u64
+    ensures { result ≡ count_by is_accepted rows.now }
+{
+    rows.iter().filter(|row| is_update(row)).count() as u64
+}
+
+fn is_update(row: &Row) -> bool
+    ensures { result ≡ is_accepted row.now }
+{
+    match row.call {
+        Call::Declare(_) => matches!(row.reply, Reply::Id(_)),
+        Call::Withdraw(_) => matches!(row.reply, Reply::Withdrawn(_)),
+        _ => false,
+    }
+}
+
+// A registry that begins with nothing.
+fn start(alloc: Global, sizes: &Sizes) -> Result<Plain, NoMemory>
+    ensures { IfOk result (λ plain. plain ≡ record { limits = sizes.now; opening = nothing; log = [] }) }
+{
+    match Plain::start(alloc, sizes, &Carried::new(alloc, 0)) {
+        Ok(plain) => Ok(plain),
+        Err(StartFault::NoMemory) => Err(NoMemory),
+        // Nothing is carried, and a log that begins with the id 0 ends in range.
+        Err(_) => unreachable!(),
+    }
+}
+
+// Writes all bytes, or those before a fault.
+fn write_all<K: Sink>(sink: &mut K, bytes: &[u8]) -> Result<(), Failed>
+    ensures takes { MatchResult result
+        (λ _. TakesWhole (K.taken sink.old) (K.taken sink.new) bytes.now)
+        (λ _. TakesPart (K.taken sink.old) (K.taken sink.new) bytes.now) }
+    ensures cause { HasCause (K.faults sink.old) (K.faults sink.new) (IsErr result) }
+{
+    let mut rest = bytes;
+    while !rest.is_empty() {
+        let taken = sink.put(rest)?;
+        rest = &rest[taken..];
+    }
+    Ok(())
+}

@@ -1,0 +1,292 @@
+use super::*;
+use std::alloc::{AllocError, Global};
+use std::test::Fail;
+
+// Room for the output of a small run.
+const ROOM: usize = 4096;
+
+// The words of a run of one file.
+fn run_words(alloc: Global, name: &str) -> Result<Args, Fail> {
+    words_of(alloc, &["run", name])
+}
+
+fn words_of(alloc: Global, list: &[&str]) -> Result<Args, Fail> {
+    let mut words = Args::new(alloc);
+    for word in list {
+        words.push(word)?;
+    }
+    Ok(words)
+}
+
+// A shelf with the one file a.txt.
+fn shelf_of(alloc: Global, text: &[u8], fail: &[u64]) -> Result<ListShelf, AllocError> {
+    let mut files = Vec::new(alloc);
+    files.push(("a.txt".to_string(alloc)?, Vec::from_slice(alloc, text)?))?;
+    Ok(ListShelf::new(files, Vec::from_slice(alloc, fail)?))
+}
+
+// A sink that takes at most seven bytes a call, and fails once `stop` bytes are taken.
+fn sink_of(alloc: Global, room: usize, stop: usize) -> Result<ListSink, AllocError> {
+    Ok(ListSink::new(Vec::with_capacity(alloc, room)?, 7, stop))
+}
+
+// The status of a run of a.txt with this text, and what the sink has taken.
+fn run_text(alloc: Global, text: &str) -> Result<(u8, String), Fail> {
+    let mut shelf = shelf_of(alloc, text.as_bytes(), &[])?;
+    let mut sink = sink_of(alloc, ROOM, usize::MAX)?;
+    let status = top(alloc, &run_words(alloc, "a.txt")?, &mut shelf, &mut sink);
+    Ok((status, taken_text(alloc, &sink)?))
+}
+
+fn taken_text(alloc: Global, sink: &ListSink) -> Result<String, Fail> {
+    Ok(
+        std::str::from_utf8(sink.bytes())
+            .ok()
+            .ok_or("not text")?
+            .to_string(alloc)?,
+    )
+}
+
+const NEAR_TWO: &str =
+    "declare ISCC:AAAQAAAAAAAAAAAA\ndeclare ISCC:AAAQAAAAAAAAAAAB\nnear ISCC:AAAQAAAAAAAAAAAA 1\n";
+
+#[test]
+fn a_query_finds_both_declarations_in_code_order(rt: HostRuntime) -> Result<(), Fail> {
+    let want = "replies 0 0
+id 0
+id 1
+hits 2 0,0,ISCC:AAAQAAAAAAAAAAAA 1,1,ISCC:AAAQAAAAAAAAAAAB
+iscc-history 1
+round 0 base 0 entries 4096 log 65536 callers 1
+0.0 @1 declare ISCC:AAAQAAAAAAAAAAAA = id 0
+0.1 @2 declare ISCC:AAAQAAAAAAAAAAAB = id 1
+0.2 @2 near ISCC:AAAQAAAAAAAAAAAA 1 = hits 2 0,0,ISCC:AAAQAAAAAAAAAAAA 1,1,ISCC:AAAQAAAAAAAAAAAB
+end 3 live 2
+";
+    let (status, output) = run_text(rt.alloc(), NEAR_TWO)?;
+    assert_eq!(rt; status, 0);
+    assert_eq!(rt; output.as_str(), want);
+    Ok(())
+}
+
+#[test]
+fn a_body_out_of_range_or_of_another_kind_is_no_hit(rt: HostRuntime) -> Result<(), Fail> {
+    let cases = [
+        (
+            "declare ISCC:AAAQAAAAAAAAAAAB\nnear ISCC:AAAQAAAAAAAAAAAA 0\n",
+            "replies 0 0\nid 0\nhits 0\niscc-history 1\n",
+        ),
+        (
+            "declare ISCC:AAAQAAAAAAAAAAAA\nnear ISCC:EAAQAAAAAAAAAAAA 0\n",
+            "replies 0 0\nid 0\nhits 0\niscc-history 1\n",
+        ),
+    ];
+    for (text, replies) in cases {
+        let (status, output) = run_text(rt.alloc(), text)?;
+        assert_eq!(rt; status, 0);
+        assert!(rt; output.as_str().starts_with(replies), "{output}");
+    }
+    Ok(())
+}
+
+#[test]
+fn lines_of_no_form_are_refused_and_make_no_row(rt: HostRuntime) -> Result<(), Fail> {
+    let bad = [
+        "declare",
+        "declare ",
+        "declare  ISCC:AAAQAAAAAAAAAAAA",
+        "declare ISCC:AAAQAAAAAAAAAAAA ",
+        "declare iscc:aaaqaaaaaaaaaaaa",
+        "declare ISCC:AAAQAAAAAAAAAAAA\r",
+        "near ISCC:AAAQAAAAAAAAAAAA",
+        "near ISCC:AAAQAAAAAAAAAAAA ",
+        "near ISCC:AAAQAAAAAAAAAAAA 16",
+        "near ISCC:AAAQAAAAAAAAAAAA 01",
+        "near ISCC:AAAQAAAAAAAAAAAA -1",
+        "near ISCC:AAAQAAAAAAAAAAAA 1 ",
+        "find ISCC:AAAQAAAAAAAAAAAA",
+        "withdraw 0",
+        " ",
+        "\r",
+        "\0",
+        "\u{e9}",
+    ];
+    for line in bad {
+        let (status, output) = run_text(rt.alloc(), line)?;
+        assert_eq!(rt; status, 0);
+        let want =
+            "replies 0 0\nbad line\niscc-history 1\nround 0 base 0 entries 4096 log 65536 callers 1\nend 0 live 0\n";
+        assert_eq!(rt; output.as_str(), want, "{line}");
+    }
+    Ok(())
+}
+
+#[test]
+fn an_empty_line_is_skipped_and_a_last_line_needs_no_line_feed(
+    rt: HostRuntime,
+) -> Result<(), Fail> {
+    let text = "\n\ndeclare ISCC:AAAQAAAAAAAAAAAA\n\nnear ISCC:AAAQAAAAAAAAAAAA 15";
+    let (status, output) = run_text(rt.alloc(), text)?;
+    assert_eq!(rt; status, 0);
+    assert!(rt;
+        output.as_str().starts_with(
+            "replies 0 0\nid 0\nhits 1 0,0,ISCC:AAAQAAAAAAAAAAAA\niscc-history 1\n"
+        )
+    );
+    let (_, nothing) = run_text(rt.alloc(), "")?;
+    assert_eq!(rt;
+        nothing.as_str(),
+        "replies 0 0\niscc-history 1\nround 0 base 0 entries 4096 log 65536 callers 1\nend 0 live 0\n"
+    );
+    Ok(())
+}
+
+#[test]
+fn the_last_entry_is_taken_and_one_more_declaration_is_refused(
+    rt: HostRuntime,
+) -> Result<(), Fail> {
+    let alloc = rt.alloc();
+    let mut text = Vec::new(alloc);
+    for _ in 0..4097 {
+        text.extend_from_slice(b"declare ISCC:AAAQAAAAAAAAAAAA\n")?;
+    }
+    let mut shelf = shelf_of(alloc, text.as_slice(), &[])?;
+    let mut sink = ListSink::new(Vec::with_capacity(alloc, 1 << 20)?, 65536, usize::MAX);
+    assert_eq!(rt;
+        top(alloc, &run_words(alloc, "a.txt")?, &mut shelf, &mut sink),
+        0
+    );
+    let output = taken_text(alloc, &sink)?;
+    assert!(rt;
+        output
+            .as_str()
+            .contains("\nid 4095\nfull entries 0\niscc-history 1\n")
+    );
+    let end = "\n0.4096 @4096 declare ISCC:AAAQAAAAAAAAAAAA = full entries 0\nend 4097 live 4096\n";
+    assert!(rt; output.as_str().ends_with(end));
+    Ok(())
+}
+
+#[test]
+fn other_words_are_refused_before_anything_is_fetched_or_written(
+    rt: HostRuntime,
+) -> Result<(), Fail> {
+    let alloc = rt.alloc();
+    let lists: [&[&str]; 14] = [
+        &[],
+        &["run"],
+        &["run", ""],
+        &["run", "-"],
+        &["run", "-a.txt"],
+        &["run", "--help"],
+        &["run", "/"],
+        &["run", "/4:16"],
+        &["run", "a.txt", "a.txt"],
+        &["Run", "a.txt"],
+        &["help"],
+        &["explain", "AAA"],
+        &["check", "a.txt"],
+        &["a.txt"],
+    ];
+    for list in lists {
+        let mut shelf = shelf_of(alloc, NEAR_TWO.as_bytes(), &[0])?;
+        let mut sink = sink_of(alloc, ROOM, usize::MAX)?;
+        assert_eq!(rt;
+            top(alloc, &words_of(alloc, list)?, &mut shelf, &mut sink),
+            2
+        );
+        assert_eq!(rt; sink.bytes().len(), 0);
+        // The shelf fails at its first call, which is still to come.
+        let mut file = Vec::new(alloc);
+        assert_eq!(rt; shelf.fetch("a.txt", &mut file, 9), Err(FetchFault::Failed));
+    }
+    Ok(())
+}
+
+#[test]
+fn words_that_only_look_like_round_marks_name_files(rt: HostRuntime) -> Result<(), Fail> {
+    let alloc = rt.alloc();
+    let names = [
+        "/home",
+        "/5",
+        "/:5",
+        "/5:",
+        "/+5:6",
+        "/123456789012345678901:5",
+        "/18446744073709551616:5",
+        "//",
+        ".",
+    ];
+    for name in names {
+        let mut shelf = shelf_of(alloc, b"", &[])?;
+        let mut sink = sink_of(alloc, ROOM, usize::MAX)?;
+        assert_eq!(rt;
+            top(alloc, &run_words(alloc, name)?, &mut shelf, &mut sink),
+            3,
+            "{name}"
+        );
+    }
+    Ok(())
+}
+
+#[test]
+fn a_missing_an_unread_and_an_overlong_file_have_statuses_of_their_own(
+    rt: HostRuntime,
+) -> Result<(), Fail> {
+    let alloc = rt.alloc();
+    let mut sink = sink_of(alloc, ROOM, usize::MAX)?;
+    let mut shelf = shelf_of(alloc, b"", &[])?;
+    assert_eq!(rt;
+        top(alloc, &run_words(alloc, "b.txt")?, &mut shelf, &mut sink),
+        3
+    );
+    let mut failing = shelf_of(alloc, b"", &[0])?;
+    assert_eq!(rt;
+        top(alloc, &run_words(alloc, "a.txt")?, &mut failing, &mut sink),
+        4
+    );
+    let long = vec![in alloc; b'#'; (1 << 24) + 1]?;
+    let mut overlong = shelf_of(alloc, long.as_slice(), &[])?;
+    assert_eq!(rt;
+        top(alloc, &run_words(alloc, "a.txt")?, &mut overlong, &mut sink),
+        7
+    );
+    let mut longest = shelf_of(alloc, &long[1..], &[])?;
+    let words = run_words(alloc, "a.txt")?;
+    assert_eq!(rt; top(alloc, &words, &mut longest, &mut SureSink::new()), 0);
+    assert_eq!(rt; sink.bytes().len(), 0);
+    assert_eq!(rt; longest.file("a.txt").map(<[u8]>::len), Some(1 << 24));
+    Ok(())
+}
+
+#[test]
+fn a_sink_that_fails_has_a_front_of_the_output(rt: HostRuntime) -> Result<(), Fail> {
+    let alloc = rt.alloc();
+    let mut shelf = shelf_of(alloc, NEAR_TWO.as_bytes(), &[])?;
+    let mut sink = sink_of(alloc, ROOM, 10)?;
+    assert_eq!(rt;
+        top(alloc, &run_words(alloc, "a.txt")?, &mut shelf, &mut sink),
+        5
+    );
+    assert_eq!(rt; taken_text(alloc, &sink)?.as_str(), "replies 0 ");
+    Ok(())
+}
+
+#[test]
+fn a_shelf_that_never_fails_serves_the_same_run(rt: HostRuntime) -> Result<(), Fail> {
+    let alloc = rt.alloc();
+    let mut files = Vec::new(alloc);
+    files.push((
+        "a.txt".to_string(alloc)?,
+        Vec::from_slice(alloc, NEAR_TWO.as_bytes())?,
+    ))?;
+    let mut shelf = SureShelf::new(files);
+    let mut sink = sink_of(alloc, ROOM, usize::MAX)?;
+    let words = run_words(alloc, "a.txt")?;
+    assert_eq!(rt; words.len(), 2);
+    assert_eq!(rt; top(alloc, &words, &mut shelf, &mut sink), 0);
+    assert_eq!(rt; taken_text(alloc, &sink)?, run_text(alloc, NEAR_TWO)?.1);
+    assert_eq!(rt; shelf.file("a.txt"), Some(NEAR_TWO.as_bytes()));
+    assert!(rt; shelf.file("b.txt").is_none());
+    Ok(())
+}
