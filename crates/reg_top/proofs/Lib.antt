@@ -6,3 +6,4 @@ pub mod RoundMarks
 pub mod Texts
 pub mod Writing
 pub mod OneRound
+pub mod Causes

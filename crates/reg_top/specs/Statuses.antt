@@ -1,13 +1,14 @@
 -- When the top call answers which status.
-use Rattle.std.specs.Prelude.{◌≡◌, ◌⊎◌, ℕ, ◌^◌, nat_le, if◌then◌else◌, List, [], ◌∷◌, length, Option, Some, None, IfSome}
+use Rattle.std.specs.Prelude.{◌≡◌, ◌⊎◌, ℕ, ◌-◌, ◌<◌, ◌^◌, nat_le, if◌then◌else◌, List, [], ◌∷◌, length, Option, Some, None, IfSome, IsSomeAnd}
 use Rattle.std.specs.List.{flat_map}
 use Rattle.reg_top.specs.declared.shelf.FetchFault.{FetchFault}
 use Rattle.reg_top.specs.declared.shelf.FetchFault.TheVariants.{Missing, TooLong}
 use Rattle.reg_top.specs.declared.status.Status.{Status}
 use Rattle.reg_top.specs.declared.status.Status.TheVariants as status
-use Rattle.reg_top.specs.Faults.{Quiet}
+use Rattle.reg_top.specs.Faults.{Quiet, Rose}
 use Rattle.reg_top.specs.Files.{Files}
-use Rattle.reg_top.specs.Words.{Command, RoundPlan, IsForm}
+use Rattle.reg_top.specs.Output.{WritesRun, WritesFront}
+use Rattle.reg_top.specs.Words.{Command, RoundPlan, IsForm, plan_of}
 use Rattle.reg_top.specs.Words.Command.{Run}
 
 -- The status comes only where P holds, and where P holds it comes, unless memory is wanting.
@@ -41,9 +42,11 @@ request_limit = 2 ^ 24
 abbrev pub StopsBy : List (List ℕ) → Files → FetchFault → Type 0
 StopsBy words files fault = (plan : List RoundPlan) × IsForm words (Run plan) × (first_refusal request_limit files (fetched_names plan) ≡ Some fault)
 
--- A status that tells a fault of a file: only where that file is the first to stop the run, and there, unless a fetch failed.
+-- A status that tells a fault of a file: only where that file is the first to stop the run and no fetch failed, and there,
+-- unless memory is wanting.
 pub record IsStopStatus (result status : ℕ) (words : List (List ℕ)) (files : Option Files) (fault : FetchFault) (before now : ℕ) : Type 0 where
   pub only : result ≡ status → IfSome files (λ map. StopsBy words map fault)
+  pub quiet : result ≡ status → before < 2 ^ 64 - 1 → now ≡ before
   pub where_it_holds : Quiet before now → IfSome files (λ map. StopsBy words map fault → (result ≡ status) ⊎ (result ≡ 6))
 
 -- accepted words, files that are there and in limit, and no fault: all is done, or memory is wanting
@@ -64,3 +67,23 @@ status_number status.TooLong = 7
 -- the statuses there are
 abbrev pub statuses : List ℕ
 statuses = 0 ∷ 2 ∷ 3 ∷ 4 ∷ 5 ∷ 6 ∷ 7 ∷ []
+
+-- ---- what the parts of a run tell
+
+-- why a run of this file makes no output
+abbrev pub Stops : List ℕ → Option Files → ℕ → ℕ → Status → Type 0
+Stops name files before now status.Missing = (now ≡ before) × IfSome files (λ map. map name ≡ None)
+Stops name files before now status.TooLong = (now ≡ before) × IfSome files (λ map. IsSomeAnd (map name) (λ bytes. request_limit < length bytes))
+Stops name files before now status.Read = Rose before now
+Stops name files before now status.Memory = Unit {0}
+Stops name files before now other = ⊥
+
+-- the file is there and in limit
+abbrev pub IsServed : List ℕ → Option Files → Type 0
+IsServed name files = IfSome files (λ map. first_refusal request_limit map (name ∷ []) ≡ None)
+
+-- how a run of this file ends: with the counts of faults of shelf and sink, and the bytes of the sink
+abbrev pub Ends : List ℕ → Option Files → ℕ → ℕ → Option (List ℕ) → Option (List ℕ) → ℕ → ℕ → Status → Type 0
+Ends name files before now taken after was faults status.Done = IsServed name files × (now ≡ before) × (faults ≡ was) × WritesRun (plan_of name) files taken after
+Ends name files before now taken after was faults status.Write = IsServed name files × (now ≡ before) × Rose was faults × WritesFront (plan_of name) files taken after
+Ends name files before now taken after was faults other = Stops name files before now other × (faults ≡ was) × (after ≡ taken)

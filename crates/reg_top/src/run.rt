@@ -1,11 +1,14 @@
-ghost use Rattle.std.specs.Prelude.{◌≡◌, ◌<◌, ◌≤◌, ◌^◌, [], List, ℕ, Some, IfOk, IsErr, MatchResult, All, length, map, count_by};
+ghost use Rattle.std.specs.Prelude.{◌≡◌, ◌≢◌, ◌<◌, ◌≤◌, ◌^◌, [], List, ℕ, Some, IfOk, IfSome, OnOk, IsErr, MatchResult, Contains, All, length, map, count_by};
 ghost use Rattle.reg_model.specs.Rows.{is_accepted, IsLawful, session_rows};
 ghost use Rattle.reg_model.specs.Runs.{nothing};
-ghost use Rattle.reg_top.specs.Faults.{HasCause};
+ghost use Rattle.reg_top.specs.Faults.{HasCause, Rose, Quiet};
 ghost use Rattle.reg_top.specs.Files.{Files};
 ghost use Rattle.reg_top.specs.Requests.{IsRequest, calls_of as calls_asked};
-ghost use Rattle.reg_top.specs.Words.{plan_of};
-ghost use Rattle.reg_top.specs.Output.{IsRunOutput, TakesWhole, TakesPart};
+ghost use Rattle.reg_top.specs.declared.shelf.FetchFault.TheVariants.{Missing, TooLong};
+ghost use Rattle.reg_top.specs.Words.{plan_of, RoundPlan, IsForm};
+ghost use Rattle.reg_top.specs.Words.Command.{Run};
+ghost use Rattle.reg_top.specs.Statuses.{Exactly, HasNoForm, IsStopStatus, IsDone, statuses, Stops, IsServed, Ends};
+ghost use Rattle.reg_top.specs.Output.{IsRunOutput, TakesWhole, TakesPart, WritesRun, WritesFront};
 
 use crate::args::Args;
 use crate::cut::read_items;
@@ -31,8 +34,32 @@ const LOG: u32 = 65536;
 
 const BITS: u32 = 12;
 
-/// Does what the words say, and answers the status.
-pub fn top<F: Shelf, K: Sink>(alloc: Global, words: &Args, shelf: &mut F, sink: &mut K) -> u8 {
+/// Does what the words say, and answers the status: docs/FORMATS.md has the words and the statuses.
+///
+/// Always returns. On status 5 the sink has a front of the output, and on every other status but 0 nothing more than before.
+pub fn top<F: Shelf, K: Sink>(alloc: Global, words: &Args, shelf: &mut F, sink: &mut K) -> u8
+    // The output holds one history: each call of the named files once, in its file's order, with the registry's reply there.
+    ensures run { (plan : List RoundPlan) → IsForm words.now (Run plan) → result ≡ 0
+        → WritesRun plan (F.files shelf.old) (K.taken sink.old) (K.taken sink.new) }
+
+    // Each status has its cause, in this order.
+    ensures words { Exactly result 2 (HasNoForm words.now) }
+    ensures missing { IsStopStatus result 3 words.now (F.files shelf.old) Missing (F.fetch_faults shelf.old) (F.fetch_faults shelf.new) }
+    ensures too_long { IsStopStatus result 7 words.now (F.files shelf.old) TooLong (F.fetch_faults shelf.old) (F.fetch_faults shelf.new) }
+    ensures read { result ≡ 4 → Rose (F.fetch_faults shelf.old) (F.fetch_faults shelf.new) }
+    ensures write { result ≡ 5 → Rose (K.faults sink.old) (K.faults sink.new) }
+    ensures known { Contains statuses result }
+
+    // Without faults, accepted words and files are served, or memory is wanting.
+    ensures done { Quiet (F.fetch_faults shelf.old) (F.fetch_faults shelf.new) → Quiet (K.faults sink.old) (K.faults sink.new)
+        → IsDone result words.now (F.files shelf.old) }
+
+    // What the sink and the shelf have afterwards.
+    ensures cut_short { (plan : List RoundPlan) → IsForm words.now (Run plan) → result ≡ 5
+        → WritesFront plan (F.files shelf.old) (K.taken sink.old) (K.taken sink.new) }
+    ensures silent { result ≢ 0 → result ≢ 5 → K.taken sink.new ≡ K.taken sink.old }
+    ensures same { F.files shelf.new ≡ F.files shelf.old }
+{
     let status = match run_file(words) {
         None => Status::Words,
         Some(name) => run(alloc, name, shelf, sink),
@@ -41,7 +68,11 @@ pub fn top<F: Shelf, K: Sink>(alloc: Global, words: &Args, shelf: &mut F, sink: 
 }
 
 // Fetches the file, serves its calls, and writes the output.
-fn run<F: Shelf, K: Sink>(alloc: Global, name: &str, shelf: &mut F, sink: &mut K) -> Status {
+fn run<F: Shelf, K: Sink>(alloc: Global, name: &str, shelf: &mut F, sink: &mut K) -> Status
+    ensures ends { Ends name.now (F.files shelf.old) (F.fetch_faults shelf.old) (F.fetch_faults shelf.new)
+        (K.taken sink.old) (K.taken sink.new) (K.faults sink.old) (K.faults sink.new) result }
+    ensures same { F.files shelf.new ≡ F.files shelf.old }
+{
     match make_output(alloc, name, shelf) {
         Err(status) => status,
         Ok(output) => match write_all(sink, output.as_slice()) {
@@ -52,7 +83,14 @@ fn run<F: Shelf, K: Sink>(alloc: Global, name: &str, shelf: &mut F, sink: &mut K
 }
 
 // The whole output of a run, which is in memory before the first byte of it is written.
-fn make_output<F: Shelf>(alloc: Global, name: &str, shelf: &mut F) -> Result<Vec<u8>, Status> {
+fn make_output<F: Shelf>(alloc: Global, name: &str, shelf: &mut F) -> Result<Vec<u8>, Status>
+    ensures made { MatchResult result
+        (λ output. IfSome (F.files shelf.old) (λ files. IsRunOutput nothing (plan_of name.now) files output.items))
+        (λ status. Stops name.now (F.files shelf.old) (F.fetch_faults shelf.old) (F.fetch_faults shelf.new) status) }
+    ensures served { OnOk result (IsServed name.now (F.files shelf.old)) }
+    ensures quiet { OnOk result (F.fetch_faults shelf.new ≡ F.fetch_faults shelf.old) }
+    ensures same { F.files shelf.new ≡ F.files shelf.old }
+{
     let mut file = Vec::new(alloc);
     match shelf.fetch(name, &mut file, REQUEST_MOST) {
         Ok(()) => match output_of(alloc, file.as_slice()) {
