@@ -1,4 +1,10 @@
+pub mod BitLists
 pub mod DifferingBits
 pub mod EachBelow
 pub mod KindFacts
+pub mod HeaderReading
+pub mod HeaderSteps
+pub mod NibblePlaces
+pub mod NumberReading
+pub mod NumberSpellings
 pub mod WorkedBits

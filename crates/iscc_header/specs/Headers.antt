@@ -1,6 +1,7 @@
 -- The bits of a header: four numbers, each spelled in nibbles (ISO 24138:2024, header encoding).
-use Rattle.std.specs.Prelude.{ℕ, ◌-◌, ◌%◌, nat_lt, ◌==◌, if◌then◌else◌, List, [], ◌∷◌, ◌++◌, length}
-use Rattle.iscc_header.specs.Bits.{bits_of}
+use Rattle.std.specs.Prelude.{◌≡◌, ◌≢◌, ◌<◌, ℕ, ◌-◌, ◌*◌, ◌%◌, nat_lt, ◌==◌, if◌then◌else◌, List, [], ◌∷◌, ◌++◌, length, take, drop, All}
+use Rattle.std.specs.List.{flat_map}
+use Rattle.iscc_header.specs.Bits.{bits_of, byte_bits, IsByte}
 
 -- A number below 4680: a prefix that says how long its spelling is, and the number in the bits that are left.
 abbrev pub number_bits : ℕ → List ℕ
@@ -10,10 +11,91 @@ number_bits n =
     else if nat_lt n 584 then 1 ∷ 1 ∷ 0 ∷ bits_of 9 (n - 72)
     else 1 ∷ 1 ∷ 1 ∷ 0 ∷ bits_of 12 (n - 584)
 
+-- the numbers that have a spelling
+abbrev pub IsSpellable : ℕ → Type 0
+IsSpellable n = n < 4680
+
+-- these bits are the spelling of the number
+pub record SpellsNumber (bits : List ℕ) (n : ℕ) : Type 0 where
+  pub spellable : IsSpellable n
+  pub spelled : bits ≡ number_bits n
+
+-- the bits begin with the spelling of the number, and go on with the rest
+pub record BeginsWithNumber (bits : List ℕ) (n : ℕ) (rest : List ℕ) : Type 0 where
+  pub spellable : IsSpellable n
+  pub spelled : bits ≡ number_bits n ++ rest
+
+-- the bits end within the spelling of a number: more are wanted
+pub record EndsWithinNumber (bits : List ℕ) : Type 0 where
+  pub number : ℕ
+  pub more : List ℕ
+  pub spellable : IsSpellable number
+  pub wanted : 0 < length more
+  pub spelled : number_bits number ≡ bits ++ more
+
+-- the bits begin with the nibble 15, with which no spelling begins
+pub record BeginsWithNoNumber (bits : List ℕ) : Type 0 where
+  pub rest : List ℕ
+  pub fifteen : bits ≡ 1 ∷ 1 ∷ 1 ∷ 1 ∷ rest
+
+-- the bits of these bytes from a nibble place on
+abbrev pub bits_from : List ℕ → ℕ → List ℕ
+bits_from bytes at = drop (4 * at) (byte_bits bytes)
+
 -- an odd number of nibbles gets one nibble 0 more, so that bytes are whole
 abbrev pub padded : List ℕ → List ℕ
 padded bits = if length bits % 8 == 0 then bits else bits ++ 0 ∷ 0 ∷ 0 ∷ 0 ∷ []
 
 -- MainType, SubType, Version and Length, in this order
 abbrev pub header_bits : ℕ → ℕ → ℕ → ℕ → List ℕ
-header_bits main sub version len = padded (number_bits main ++ number_bits sub ++ number_bits version ++ number_bits len)
+header_bits main sub version len = padded (flat_map number_bits (main ∷ sub ∷ version ∷ len ∷ []))
+
+-- the four numbers of a header
+pub record Numbers : Type 0 where
+  pub main : ℕ
+  pub sub : ℕ
+  pub version : ℕ
+  pub len : ℕ
+
+-- a header's numbers each have a spelling
+pub record IsHeader (header : Numbers) : Type 0 where
+  pub main : IsSpellable header.main
+  pub sub : IsSpellable header.sub
+  pub version : IsSpellable header.version
+  pub len : IsSpellable header.len
+
+-- these bytes are the spelling of the header
+pub record SpellsHeader (header : Numbers) (bytes : List ℕ) : Type 0 where
+  pub numbers : IsHeader header
+  pub range : All IsByte bytes
+  pub spelled : byte_bits bytes ≡ header_bits header.main header.sub header.version header.len
+
+-- the bits are the spellings of these numbers, and the rest
+pub record BeginsWithNumbers (bits numbers rest : List ℕ) : Type 0 where
+  pub spellable : All IsSpellable numbers
+  pub spelled : bits ≡ flat_map number_bits numbers ++ rest
+
+-- where a header's next number should stand, the bits end within it
+pub record EndsWithinHeader (bits : List ℕ) : Type 0 where
+  pub before : List ℕ
+  pub rest : List ℕ
+  pub fewer : length before < 4
+  pub numbers : BeginsWithNumbers bits before rest
+  pub ends : EndsWithinNumber rest
+
+-- where a header's next number should stand, there is none
+pub record LacksNumber (bits : List ℕ) : Type 0 where
+  pub before : List ℕ
+  pub rest : List ℕ
+  pub fewer : length before < 4
+  pub numbers : BeginsWithNumbers bits before rest
+  pub lacks : BeginsWithNoNumber rest
+
+-- the four numbers have an odd number of nibbles, and the nibble after them isn't 0
+pub record IsPaddedWrongly (bits : List ℕ) : Type 0 where
+  pub all : List ℕ
+  pub rest : List ℕ
+  pub four : length all ≡ 4
+  pub numbers : BeginsWithNumbers bits all rest
+  pub odd : length (flat_map number_bits all) % 8 ≡ 4
+  pub other : take 4 rest ≢ 0 ∷ 0 ∷ 0 ∷ 0 ∷ []

@@ -1,15 +1,15 @@
 -- The letters of a number's bits.
-use Rattle.std.proofs.Common.{◌≡◌, ℕ, zero, suc, ◌+◌, ◌-◌, ◌*◌, ◌/◌, ◌%◌, ◌^◌, ◌<◌, ◌≤◌, List, [], ◌∷◌, ◌++◌, refl, sym, ◌∙◌, ap, ap₂, append_assoc, append-nil, length, arith}
+use Rattle.std.proofs.Common.{◌≡◌, ℕ, suc, ◌+◌, ◌-◌, ◌*◌, ◌/◌, ◌%◌, ◌^◌, ◌<◌, ◌≤◌, List, [], ◌∷◌, ◌++◌, refl, sym, ◌∙◌, ap, ap₂, append_assoc, append-nil, length, arith}
 use Rattle.std.proofs.Math.Nat.{div-div-eq-div-mul}
 use Rattle.std.proofs.lemmas.Nat.{pow-add}
 use Rattle.std.proofs.lemmas.List.{length_push}
-use Rattle.std.proofs.lemmas.Nat.Bits.{bit_at_cat_high, bit_at_cat_low}
 use Rattle.std.specs.Int.{bit_at}
 use Rattle.std.specs.Int.Digits.{number_from_digits}
 use Rattle.iscc_header.specs.Bits.{bits_of}
 use Rattle.iscc_header.specs.Kinds.{main_of, sub_of}
 use Rattle.iscc_header.specs.Headers.{header_bits}
 use Rattle.iscc_header.specs.Units.{IsUnit}
+use Rattle.iscc_header.proofs.BitLists.{bits_of-append}
 use Rattle.iscc_header.proofs.EachBelow.{each_below}
 use Rattle.std.specs.Str.{bytes_eq}
 use Rattle.std.proofs.lemmas.Slice.Eq.{bytes_eq-Decides}
@@ -35,21 +35,6 @@ unfolding bits_of
 next_letter n w t e =
     let long : t ≡ suc (suc (suc (suc (suc w)))) = omega arith in
     ap (λ k. letters (bits_of k n)) long ∙ ap (λ d. letter d ∷ letters (bits_of w n)) (five n w)
-
--- the low bits of a sum
-low_bits : (w k x y : ℕ) → w ≤ k → bits_of w (x * 2 ^ k + y) ≡ bits_of w y
-unfolding bits_of
-low_bits zero k x y h = refl
-low_bits (suc w) k x y h = ap₂ (λ b bs. b ∷ bs) (bit_at_cat_low x k y w (omega arith)) (low_bits w k x y (omega arith))
-
-pub bits_of-append : (a b t x y : ℕ) → y < 2 ^ b → t ≡ a + b → bits_of t (x * 2 ^ b + y) ≡ bits_of a x ++ bits_of b y
-unfolding bits_of
-bits_of-append zero b t x y low e = ap (λ k. bits_of k (x * 2 ^ b + y)) (let same : t ≡ b = omega arith in same) ∙ low_bits b b x y (omega arith)
-bits_of-append (suc a) b t x y low e =
-    let longer : t ≡ suc (a + b) = omega arith in
-    let top : bit_at (x * 2 ^ b + y) (a + b) ≡ bit_at x a = bit_at_cat_high x b y (a + b) low (omega arith) ∙ ap (bit_at x) (let same : a + b - b ≡ a = omega arith in same) in
-    ap (λ k. bits_of k (x * 2 ^ b + y)) longer
-    ∙ ap₂ (λ b bs. b ∷ bs) top (bits_of-append a b (a + b) x y low refl)
 
 -- the header of a unit of 64 bits is 16 bits
 pub header_is : (kind : ℕ) → kind < 13 → header_bits (main_of kind) (sub_of kind) 0 1 ≡ bits_of 16 ((main_of kind * 16 + sub_of kind) * 256 + 1)

@@ -1,15 +1,19 @@
-//! The printed text of an ISCC unit: `ISCC:` and the base32 letters of its header and body
-//! (ISO 24138:2024, canonical form; RFC 4648, section 6).
+//! Texts of ISCCs: the printed text, `ISCC:` and the base32 letters of header and body, and the lenient
+//! reading of a text (ISO 24138:2024, canonical form; RFC 4648, section 6).
 //!
-//! It stands on `iscc_header`. Request lines, replies and histories of the crates above are made of these
-//! texts. What is printed is read back, and nothing else is read: `specs/UnitText.antt` has the one text.
+//! It stands on `iscc_code`, whose bytes it prints and reads. Request lines, replies and histories of the
+//! crates above are made of these texts. `specs/Texts.antt` has what a text stands for and the fault of every
+//! other text, and `specs/UnitText.antt` the one printed text of a unit of 64 bits.
 #![tactic(auto)]
 
+mod gather;
+mod laws;
 mod print;
 mod read;
 
-pub use print::print_unit;
-pub use read::read_printed;
+pub use laws::{a_printed_text_is_of_one_unit, each_text_stands_for_one_code};
+pub use print::{print_iscc, print_unit};
+pub use read::{TextFault, read_iscc, read_printed};
 
 #[cfg(test)]
 mod tests;

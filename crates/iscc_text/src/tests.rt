@@ -1,5 +1,6 @@
 use super::*;
-use iscc_header::{Kind, Unit64};
+use iscc_code::{Iscc, IsccFault, Unit};
+use iscc_header::{HeaderFault, Kind, Unit64};
 use std::test::Fail;
 
 // Kind, body and printed text. The text of the Instance-Code is that of the empty file.
@@ -42,4 +43,95 @@ fn only_the_printed_text_is_read(rt: HostRuntime) {
     for text in others {
         assert!(rt; read_printed(text.as_bytes()).is_none(), "{text}");
     }
+}
+
+fn unit(number: u8, body: &[u8]) -> Result<Iscc, Fail> {
+    let kind = Kind::new(number).ok_or("no kind")?;
+    Ok(Iscc::Unit(Unit::new(kind, body).ok_or("no unit")?))
+}
+
+#[test]
+fn a_lenient_text_is_read_as_the_printed_one(rt: HostRuntime) -> Result<(), Fail> {
+    let meta = unit(0, &[0; 8])?;
+    let texts = [
+        "ISCC:AAAQAAAAAAAAAAAA",
+        "AAAQAAAAAAAAAAAA",
+        "  iscc:aaaq-aaaa-aaaa-aaaa ",
+        "\t iScC:-AaAq--aaaaaaaaaaaa-\t",
+        "iscc:-a-a-a-q-a-a-a-a-a-a-a-a-a-a-a-a-",
+    ];
+    for text in texts {
+        assert_eq!(rt; read_iscc(text.as_bytes()), Ok(meta), "{text}");
+    }
+    assert_eq!(rt; print_iscc(&meta).as_str(), "ISCC:AAAQAAAAAAAAAAAA");
+    Ok(())
+}
+
+#[test]
+fn a_printed_unit_of_every_width_is_read_back(rt: HostRuntime) -> Result<(), Fail> {
+    let body = [0xa5; 32];
+    for len in [4, 8, 12, 16, 20, 24, 28, 32] {
+        let iscc = unit(9, &body[..len])?;
+        let text = print_iscc(&iscc);
+        assert_eq!(rt; text.len(), 5 + (8 * (len + 2)).div_ceil(5));
+        assert_eq!(rt; read_iscc(text.as_str().as_bytes()), Ok(iscc));
+    }
+    let empty_file = unit(12, &[0xaf, 0x13, 0x49, 0xb9, 0xf5, 0xf9, 0xa1, 0xa6])?;
+    assert_eq!(rt; print_iscc(&empty_file).as_str(), "ISCC:IAA26E2JXH27TING");
+    assert_eq!(rt; read_iscc(b"AAAAAAAAAA"), Ok(unit(0, &[0; 4])?));
+    Ok(())
+}
+
+#[test]
+fn the_first_fault_of_a_text_is_answered(rt: HostRuntime) {
+    let short = TextFault::Iscc(IsccFault::Header(HeaderFault::Short));
+    let cases = [
+        ("IPFS:AAAQ", TextFault::Scheme),
+        (":AAAQ", TextFault::Scheme),
+        ("iscc :AAAQ", TextFault::Scheme),
+        ("-iscc:AAAQ", TextFault::Scheme),
+        ("AAAQ:", TextFault::Scheme),
+        ("!:1", TextFault::Scheme),
+        ("ISCC:AA1Q", TextFault::Letter { at: 7 }),
+        ("  ISCC:AA1Q", TextFault::Letter { at: 9 }),
+        ("ISCC: AAAQ", TextFault::Letter { at: 5 }),
+        ("AA AQ", TextFault::Letter { at: 2 }),
+        ("ISCC:AAAQ:AAAA", TextFault::Letter { at: 9 }),
+        ("AAAQAAAAAAAAAAAA=", TextFault::Letter { at: 16 }),
+        ("\u{0}", TextFault::Letter { at: 0 }),
+        ("AA\u{e9}Q", TextFault::Letter { at: 2 }),
+        ("AAAQ\n", TextFault::Letter { at: 4 }),
+        ("AA8", TextFault::Letter { at: 2 }),
+        ("A", TextFault::Bits),
+        ("AAA", TextFault::Bits),
+        ("AAAAAA", TextFault::Bits),
+        ("AB", TextFault::Bits),
+        ("AAAQAAAAAAAAAAAAAB", TextFault::Bits),
+        ("", short),
+        ("  \t", short),
+        ("ISCC:", short),
+        ("-", short),
+        ("AA", short),
+        ("8", TextFault::Letter { at: 0 }),
+        ("KUA", TextFault::Bits),
+        ("KUAAA", TextFault::Iscc(IsccFault::MainType)),
+        ("AAIAA", TextFault::Iscc(IsccFault::Version)),
+        ("AEAAA", TextFault::Iscc(IsccFault::SubType)),
+        ("AAAQAAAAAAAAAAA", TextFault::Iscc(IsccFault::Short)),
+        ("AAAQAAAAAAAAAAAAAA", TextFault::Iscc(IsccFault::Long)),
+    ];
+    for (text, fault) in cases {
+        assert_eq!(rt; read_iscc(text.as_bytes()), Err(fault), "{text}");
+    }
+}
+
+#[test]
+fn a_long_line_is_too_long(rt: HostRuntime) -> Result<(), Fail> {
+    let mut line = [b'A'; 99_996];
+    assert_eq!(rt; read_iscc(&line), Err(TextFault::Iscc(IsccFault::Long)));
+    line[99_995] = b'B';
+    assert_eq!(rt; read_iscc(&line), Err(TextFault::Bits));
+    line[70_000] = b'!';
+    assert_eq!(rt; read_iscc(&line), Err(TextFault::Letter { at: 70_000 }));
+    Ok(())
 }

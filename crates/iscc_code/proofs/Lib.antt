@@ -1,0 +1,3 @@
+pub mod BodyBytes
+pub mod CodeFaults
+pub mod OneCode

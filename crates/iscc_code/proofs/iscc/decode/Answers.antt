@@ -1,0 +1,13 @@
+use Rattle.std.proofs.Common.{Ok, Err, subst}
+use Rattle.iscc_code.specs.Codes.{DecodesTo}
+use Rattle.iscc_code.proofs.OneCode.{one_answer}
+use Rattle.iscc_code.proofs.iscc.decode.Goals as goal
+
+pub returns-clause-complete : goal.returns-clause-complete
+returns-clause-complete c = λ iscc spelled. one_answer c.args.bytes.now c.read_code.result (Ok iscc) c.read_code.ensures spelled
+
+pub returns-clause-fault : goal.returns-clause-fault
+returns-clause-fault c = λ fault. (
+  λ e. subst (DecodesTo c.args.bytes.now) e c.read_code.ensures,
+  λ has. one_answer c.args.bytes.now c.read_code.result (Err fault) c.read_code.ensures has,
+)

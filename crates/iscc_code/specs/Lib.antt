@@ -1,0 +1,6 @@
+pub use Rattle.iscc_header.specs.Bits
+pub use Rattle.iscc_header.specs.Kinds
+pub use Rattle.iscc_header.specs.Headers
+pub mod Units
+pub mod StoredUnits
+pub mod Codes

@@ -1,0 +1,74 @@
+use super::*;
+use iscc_header::{HeaderFault, Kind, MainType};
+use std::test::Fail;
+
+#[test]
+fn a_unit_is_read_back_from_its_bytes(rt: HostRuntime) -> Result<(), Fail> {
+    let kind = Kind::of(MainType::Instance, 0).ok_or("no kind")?;
+    let body = [0xaf, 0x13, 0x49, 0xb9, 0xf5, 0xf9, 0xa1, 0xa6];
+    let unit = Unit::new(kind, &body).ok_or("no unit")?;
+    assert_eq!(rt; unit.kind(), kind);
+    assert_eq!(rt; unit.body(), body.as_slice());
+    assert_eq!(rt; unit.bits(), 64);
+    let short = unit.first64().ok_or("short")?;
+    assert_eq!(rt; short.kind, kind);
+    assert_eq!(rt; short.body, 0xaf13_49b9_f5f9_a1a6);
+    let bytes = [0x40, 0x01, 0xaf, 0x13, 0x49, 0xb9, 0xf5, 0xf9, 0xa1, 0xa6];
+    assert_eq!(rt; encode(&Iscc::Unit(unit)).as_slice(), bytes.as_slice());
+    assert_eq!(rt; decode(&bytes), Ok(Iscc::Unit(unit)));
+    Ok(())
+}
+
+#[test]
+fn a_body_has_four_to_thirty_two_bytes_by_fours(rt: HostRuntime) -> Result<(), Fail> {
+    let kind = Kind::of(MainType::Meta, 0).ok_or("no kind")?;
+    let body = [1u8; 40];
+    for len in 0..41 {
+        let fits = len == 4
+            || len == 8
+            || len == 12
+            || len == 16
+            || len == 20
+            || len == 24
+            || len == 28
+            || len == 32;
+        assert_eq!(rt; Unit::new(kind, &body[..len]).is_some(), fits);
+    }
+    let least = Unit::new(kind, &body[..4]).ok_or("no unit")?;
+    assert_eq!(rt; least.first64(), None);
+    assert_eq!(rt; least.bits(), 32);
+    let most = Unit::new(kind, &body[..32]).ok_or("no unit")?;
+    assert_eq!(rt; most.first64().ok_or("short")?.body, 0x0101_0101_0101_0101);
+    assert_eq!(rt; encode(&Iscc::Unit(most)).len(), 34);
+    Ok(())
+}
+
+#[test]
+fn the_first_fault_of_a_code_is_answered(rt: HostRuntime) {
+    let cases = [
+        ([].as_slice(), IsccFault::Header(HeaderFault::Short)),
+        ([0xF0, 0].as_slice(), IsccFault::Header(HeaderFault::NoCode)),
+        (
+            [0, 8, 1].as_slice(),
+            IsccFault::Header(HeaderFault::Padding),
+        ),
+        // MainType 5, with a version and a length that can't be either.
+        ([0x57, 0x18, 0].as_slice(), IsccFault::MainType),
+        ([0x80, 0x00, 0x00].as_slice(), IsccFault::MainType),
+        // Version 1, with SubType 7 and length 8.
+        ([0x07, 0x18, 0x00].as_slice(), IsccFault::Version),
+        // Length 8, with SubType 7.
+        ([0x07, 0x08, 0x00].as_slice(), IsccFault::Length),
+        ([0x01, 0x00].as_slice(), IsccFault::SubType),
+        ([0x15, 0x00].as_slice(), IsccFault::SubType),
+        ([0x25, 0x00].as_slice(), IsccFault::SubType),
+        ([0x31, 0x00].as_slice(), IsccFault::SubType),
+        ([0x41, 0x00].as_slice(), IsccFault::SubType),
+        ([0x00, 0x00, 1, 2, 3].as_slice(), IsccFault::Short),
+        ([0x00, 0x00, 1, 2, 3, 4, 5].as_slice(), IsccFault::Long),
+        ([0x00, 0x00].as_slice(), IsccFault::Short),
+    ];
+    for (bytes, fault) in cases {
+        assert_eq!(rt; decode(bytes), Err(fault));
+    }
+}
