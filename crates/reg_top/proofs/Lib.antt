@@ -7,3 +7,8 @@ pub mod Texts
 pub mod Writing
 pub mod OneRound
 pub mod Causes
+pub mod WordsBack
+pub mod CallsBack
+pub mod RepliesBack
+pub mod RowsBack
+pub mod RunsBack

@@ -11,6 +11,7 @@ mod args;
 mod cut;
 mod history;
 mod items;
+mod laws;
 mod list_shelf;
 mod list_sink;
 mod print;
@@ -26,6 +27,7 @@ mod sure_sink;
 mod words;
 
 pub use args::Args;
+pub use laws::{a_file_has_one_list_of_items, a_history_text_has_one_run};
 pub use list_shelf::ListShelf;
 pub use list_sink::ListSink;
 pub use run::top;

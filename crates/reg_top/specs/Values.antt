@@ -1,0 +1,54 @@
+-- The values that the program's types have: in these definitions a number has no range of its own.
+use Rattle.std.specs.Prelude.{◌^◌, ◌<◌, List, All}
+use Rattle.iscc_header.specs.Units.{IsUnit}
+use Rattle.reg_model.specs.declared.update.Declared.{Declared}
+use Rattle.reg_model.specs.declared.call.Call.{Call}
+use Rattle.reg_model.specs.declared.call.Call.TheVariants as calls
+use Rattle.reg_model.specs.declared.reply.Hit.{Hit}
+use Rattle.reg_model.specs.declared.reply.Reply.{Reply}
+use Rattle.reg_model.specs.declared.reply.Reply.TheVariants as replies
+use Rattle.reg_model.specs.declared.reply.FullCause.TheVariants.{Log, Entries}
+use Rattle.reg_model.specs.declared.reply.Row.{Row}
+use Rattle.reg_model.specs.Opening.{Opening}
+use Rattle.reg_model.specs.Runs.{RoundRows}
+
+pub record IsDeclaredValue (d : Declared) : Type 0 where
+  pub id : d.id < 2 ^ 64
+  pub unit : IsUnit d.unit
+
+abbrev pub IsCallValue : Call → Type 0
+IsCallValue (calls.Declare unit) = IsUnit unit
+IsCallValue (calls.Withdraw id) = id < 2 ^ 64
+IsCallValue (calls.Near unit radius) = IsUnit unit × (radius < 2 ^ 32)
+IsCallValue (calls.Show id) = id < 2 ^ 64
+IsCallValue calls.Count = Unit {0}
+IsCallValue (calls.After point) = point < 2 ^ 64
+
+pub record IsHitValue (hit : Hit) : Type 0 where
+  pub id : hit.id < 2 ^ 64
+  pub body : hit.body < 2 ^ 64
+  pub distance : hit.distance < 2 ^ 32
+
+abbrev pub IsReplyValue : Reply → Type 0
+IsReplyValue (replies.Id id) = id < 2 ^ 64
+IsReplyValue (replies.Withdrawn id) = id < 2 ^ 64
+IsReplyValue (replies.Absent id) = id < 2 ^ 64
+IsReplyValue (replies.Hits hits) = All IsHitValue hits
+IsReplyValue (replies.Live unit) = IsUnit unit
+IsReplyValue (replies.Count count) = count < 2 ^ 64
+IsReplyValue replies.Reached = Unit {0}
+IsReplyValue replies.Ahead = Unit {0}
+IsReplyValue (replies.Full Log) = Unit {0}
+IsReplyValue (replies.Full (Entries given)) = given < 2 ^ 64
+
+pub record IsRowValue (row : Row) : Type 0 where
+  pub session : row.session < 2 ^ 32
+  pub number : row.number < 2 ^ 32
+  pub call : IsCallValue row.call
+  pub point : row.point < 2 ^ 64
+  pub reply : IsReplyValue row.reply
+
+-- the declarations that a run begins with, and its rows
+pub record IsRunValue (opening : Opening) (rounds : List RoundRows) : Type 0 where
+  pub carried : All IsDeclaredValue opening.list
+  pub rows : All (λ (round : RoundRows). All IsRowValue round.rows) rounds
