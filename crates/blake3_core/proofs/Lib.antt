@@ -1,0 +1,4 @@
+pub mod Chunks
+pub mod Trees
+pub mod Words
+mod WorkedExamples
