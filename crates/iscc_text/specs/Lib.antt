@@ -5,4 +5,5 @@ pub mod Base32
 pub mod UnitText
 pub mod Letters
 pub mod Texts
+pub mod Explanations
 pub mod Gathering

@@ -6,11 +6,13 @@
 //! other text, and `specs/UnitText.antt` the one printed text of a unit of 64 bits.
 #![tactic(auto)]
 
+mod explanation;
 mod gather;
 mod laws;
 mod print;
 mod read;
 
+pub use explanation::explain;
 pub use laws::{a_printed_text_is_of_one_unit, each_text_stands_for_one_code};
 pub use print::{print_iscc, print_unit};
 pub use read::{TextFault, read_iscc, read_printed};

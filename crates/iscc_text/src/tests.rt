@@ -135,3 +135,23 @@ fn a_long_line_is_too_long(rt: HostRuntime) -> Result<(), Fail> {
     assert_eq!(rt; read_iscc(&line), Err(TextFault::Letter { at: 70_000 }));
     Ok(())
 }
+
+#[test]
+fn an_explanation_has_its_members_in_the_order_of_their_keys(rt: HostRuntime) -> Result<(), Fail> {
+    let cases = [
+        (
+            "ISCC:IAA26E2JXH27TING",
+            "{\"bits\":64,\"body\":\"af1349b9f5f9a1a6\",\"main\":\"INSTANCE\",\"sub\":\"NONE\",\"text\":\"ISCC:IAA26E2JXH27TING\"}",
+        ),
+        (
+            "eaaaaaaaaa",
+            "{\"bits\":32,\"body\":\"00000000\",\"main\":\"CONTENT\",\"sub\":\"TEXT\",\"text\":\"ISCC:EAAAAAAAAA\"}",
+        ),
+    ];
+    for (text, want) in cases {
+        let iscc = read_iscc(text.as_bytes())?;
+        let value = explain(rt.alloc(), &iscc)?;
+        assert_eq!(rt; value.to_string(rt.alloc())?.as_str(), want);
+    }
+    Ok(())
+}

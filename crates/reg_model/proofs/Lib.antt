@@ -3,3 +3,4 @@ pub mod WorkedRows
 pub mod WorkedRounds
 pub mod RowSteps
 pub mod Answered
+pub mod SortedHits

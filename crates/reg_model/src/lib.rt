@@ -9,6 +9,7 @@
 
 mod call;
 mod carried;
+mod laws;
 mod lists;
 mod plain;
 mod reply;
@@ -18,6 +19,7 @@ mod update;
 
 pub use call::Call;
 pub use carried::Carried;
+pub use laws::hits_are_told_by_their_list;
 pub use lists::{Hits, Items, Updates};
 pub use plain::Plain;
 pub use reply::{Answer, FullCause, Hit, Reply, Row};

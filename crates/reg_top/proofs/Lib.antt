@@ -5,6 +5,7 @@ pub mod FirstLine
 pub mod RoundMarks
 pub mod Texts
 pub mod Writing
+pub mod RunValues
 pub mod OneRound
 pub mod Causes
 pub mod WordsBack

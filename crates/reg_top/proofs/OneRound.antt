@@ -1,11 +1,11 @@
 -- A run of one round with one session, from the items of its file on.
-use Rattle.std.proofs.Common.{◌≡◌, ℕ, zero, suc, ◌+◌, ◌<◌, ◌≤◌, true, false, not, cond, List, [], ◌∷◌, ◌++◌, map, length, take, get_or, Option, Some, None, unwrap_or, refl, sym, ◌∙◌, ap, subst, zero-add, append-nil, inl, inr, arith, lit≤}
+use Rattle.std.proofs.Common.{◌≡◌, ℕ, zero, suc, ◌+◌, ◌^◌, ◌<◌, ◌≤◌, true, false, not, cond, List, [], ◌∷◌, ◌++◌, map, length, take, get_or, Option, Some, None, unwrap_or, refl, sym, ◌∙◌, ap, subst, zero-add, append_assoc, append-nil, inl, inr, arith, lit≤}
 use Rattle.std.specs.Prelude.{◌⊎◌, ◌==◌, if◌then◌else◌, is_some, count_by, All, codes}
 use Rattle.std.specs.List.{AllZip, AllByRecursion, cons_option}
 use Rattle.std.specs.Option.{option_to_list}
 use Rattle.std.specs.Fmt.{decimal}
-use Rattle.std.proofs.lemmas.List.{take_more}
-use Rattle.std.proofs.lemmas.List.Elements.{All-from_recursion, recursion_from_All, filter_map-append}
+use Rattle.std.proofs.lemmas.List.{take_more, length-map}
+use Rattle.std.proofs.lemmas.List.Elements.{All-nil, All-cons, All-weaker, All-from_recursion, recursion_from_All, filter_map-append}
 use Rattle.std.proofs.lemmas.List.Sums.{sum_by-cons, length-filter, count_by-le-length}
 use Rattle.iscc_header.specs.declared.unit.Unit64.{Unit64}
 use Rattle.reg_model.specs.declared.update.Update.{Update}
@@ -18,16 +18,20 @@ use Rattle.reg_model.specs.declared.reply.Row.{Row}
 use Rattle.reg_model.specs.Limits.{Limits}
 use Rattle.reg_model.specs.Live.{declared_from, declared, is_withdrawn}
 use Rattle.reg_model.specs.Rows.{update_of, is_accepted, log_of, session_rows, IsLawful}
-use Rattle.reg_model.specs.Runs.{nothing, next_opening}
+use Rattle.reg_model.specs.Runs.{RoundRows, IsLawfulRound, nothing, next_opening}
 use Rattle.reg_model.proofs.LiveSteps.{filter_all}
 use Rattle.reg_top.specs.declared.items.Item.{Item}
 use Rattle.reg_top.specs.declared.items.Item.TheVariants as items
 use Rattle.reg_top.specs.Files.{Files}
-use Rattle.reg_top.specs.Lines.{line, spaced}
-use Rattle.reg_top.specs.Requests.{lines_of, onto_first, request_lines, IsRequest, IsItem, AreItems, call_in, calls_of}
+use Rattle.iscc_text.specs.UnitText.{unit_text}
+use Rattle.reg_top.specs.Lines.{line, spaced, call_text}
+use Rattle.reg_top.specs.Requests.{lines_of, onto_first, request_lines, IsRequest, IsItem, AreItems, TakesCode, near_line, call_in, calls_of}
 use Rattle.reg_top.specs.History.{history_text}
 use Rattle.reg_top.specs.Words.{usual_limits, plan_of}
 use Rattle.reg_top.specs.Output.{item_lines, MakesCalls, IsRunOutput}
+use Rattle.reg_top.specs.Values.{IsDeclaredValue, IsCallValue, IsRowValue, IsRunValue}
+use Rattle.reg_top.proofs.CallsBack.{requested}
+use Rattle.reg_top.proofs.RunValues.{round_values}
 
 -- ---- the calls of a file
 
@@ -77,6 +81,16 @@ calls_more list i item within is =
     ∙ filter_map-append call_in (take i list) (item ∷ [])
     ∙ ap (λ calls. calls_of (take i list) ++ calls) (one_or_none (call_in item))
 
+-- how a line takes its code
+near_text : (unit : Unit64) (radius : ℕ) → near_line unit radius ≡ call_text (calls.Near unit radius)
+near_text unit radius = append_assoc (codes "near " ++ unit_text unit) (codes " ") (decimal radius)
+
+pub takes_code : (text : List ℕ) (item : Item) → IsItem text item → TakesCode text item
+takes_code text (items.Call (calls.Declare unit)) is = (is.0, is.1)
+takes_code text (items.Call (calls.Near unit radius)) is = let asked = is.0 in (asked.0, asked.1, is.1 ∙ sym (near_text unit radius))
+takes_code text (items.Bad why) is = λ unit h. (λ e. is (calls.Declare unit) h e, λ radius small e. is (calls.Near unit radius) (h, small) (e ∙ near_text unit radius))
+takes_code text (items.Call call) is = absurd is.0
+
 -- ---- the live declarations of a round in which nothing is withdrawn
 
 declares : (call : Call) (reply : Reply) → IsRequest call → (update_of call reply ≡ None) ⊎ ((unit : Unit64) × (update_of call reply ≡ Some (Decl unit)))
@@ -117,14 +131,39 @@ made list limits rows asked alone zero other at =
     ap (map (λ (row : Row). row.call)) alone ∙ asked ∙ ap (λ o. calls_of (unwrap_or o list)) at
 made list limits rows asked alone (suc session) other at = absurd (cc)
 
+-- the one round
+abbrev one_round : List Row → RoundRows
+one_round rows = record { limits = usual_limits 1; rows = rows }
+
+-- its sizes are in range, and it begins with nothing
+round_lawful : (rows : List Row) → IsLawful (usual_limits 1) nothing rows → IsLawfulRound nothing (one_round rows)
+round_lawful rows lawful = record {
+  sizes = record { entries = (lit≤ tt, lit≤ tt); log = (lit≤ tt, lit≤ tt); bits = (lit≤ tt, lit≤ tt); callers = (lit≤ tt, lit≤ tt) };
+  room = lit≤ tt;
+  ids = lit≤ tt;
+  rows = lawful;
+}
+
+-- the rows of a file that isn't too long have values of the program's types
+run_values : (file : List ℕ) (list : List Item) (rows : List Row) → length file < 2 ^ 32 → AreItems file list → map (λ (row : Row). row.call) rows ≡ calls_of list → IsLawful (usual_limits 1) nothing rows
+    → IsRunValue nothing (one_round rows ∷ [])
+run_values file list rows short are asked lawful =
+    let known : All IsRequest (map (λ (row : Row). row.call) rows) = subst (All IsRequest) (sym asked) (requests_known file list are) in
+    let calls : All IsCallValue (map (λ (row : Row). row.call) rows) = All-weaker IsRequest IsCallValue requested (map (λ (row : Row). row.call) rows) known in
+    let few : length rows ≤ 2 ^ 32 = omega (arith, short, few_calls file list are, ap length asked, length-map rows (λ (row : Row). row.call)) in
+    record {
+      carried = All-nil IsDeclaredValue;
+      rows = All-cons (λ (round : RoundRows). All IsRowValue round.rows) (one_round rows) [] (round_values nothing (one_round rows) (round_lawful rows lawful) (All-nil IsDeclaredValue) calls few) (All-nil (λ (round : RoundRows). All IsRowValue round.rows));
+    }
+
 -- the lines of the one session, and the history
 pub run_output : (files : Files) (name file : List ℕ) (list : List Item) (rows : List Row) (output : List ℕ)
-    → files name ≡ Some file → AreItems file list → map (λ (row : Row). row.call) rows ≡ calls_of list → session_rows 0 rows ≡ rows → IsLawful (usual_limits 1) nothing rows
+    → files name ≡ Some file → length file < 2 ^ 32 → AreItems file list → map (λ (row : Row). row.call) rows ≡ calls_of list → session_rows 0 rows ≡ rows → IsLawful (usual_limits 1) nothing rows
     → output ≡ (line (spaced (codes "replies" ∷ decimal 0 ∷ decimal 0 ∷ [])) ++ item_lines list rows) ++ history_text nothing (record { limits = usual_limits 1; rows = rows } ∷ [])
     → IsRunOutput nothing (plan_of name) files output
-run_output files name file list rows output held are asked alone lawful text = record {
+run_output files name file list rows output held short are asked alone lawful text = record {
   items = (list ∷ []) ∷ [];
-  rounds = record { limits = usual_limits 1; rows = rows } ∷ [];
+  rounds = one_round rows ∷ [];
   read = (((file, held, are), tt), tt);
   sizes = refl;
   calls = (made list (usual_limits 1) rows asked alone, tt);
@@ -132,16 +171,9 @@ run_output files name file list rows output held are asked alone lawful text = r
     opens = record { base = lit≤ tt; rising = λ i j d lt low. absurd (omega arith); below = λ k d low. absurd (omega arith) };
     some = lit≤ tt;
     few = lit≤ tt;
-    lawful = (
-      record {
-        sizes = record { entries = (lit≤ tt, lit≤ tt); log = (lit≤ tt, lit≤ tt); bits = (lit≤ tt, lit≤ tt); callers = (lit≤ tt, lit≤ tt) };
-        room = lit≤ tt;
-        ids = lit≤ tt;
-        rows = lawful;
-      },
-      tt,
-    );
+    lawful = (round_lawful rows lawful, tt);
   };
+  values = run_values file list rows short are asked lawful;
   text =
       text
       ∙ ap (λ lines. lines ++ history_text nothing (record { limits = usual_limits 1; rows = rows } ∷ []))

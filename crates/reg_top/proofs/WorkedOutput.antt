@@ -1,12 +1,13 @@
 -- The output of a small run, from the bytes of its file on.
 use Rattle.std.proofs.Common.{◌≡◌, ℕ, zero, suc, List, [], ◌∷◌, ◌++◌, Some, Option, unwrap_or, refl, ap, lit<, lit≤, arith}
-use Rattle.std.specs.Prelude.{codes, bytes_eq, if◌then◌else◌, None}
+use Rattle.std.specs.Prelude.{All, codes, bytes_eq, if◌then◌else◌, None}
 use Rattle.std.specs.Fmt.{digits}
+use Rattle.std.proofs.lemmas.List.Elements.{All-nil, All-from_recursion}
 use Rattle.iscc_header.specs.Bits.{bits_of}
 use Rattle.iscc_text.specs.UnitText.{unit_text}
 use Rattle.reg_model.specs.declared.call.Call.TheVariants as calls
 use Rattle.reg_model.specs.Runs.{RoundRows, IsHistory, nothing}
-use Rattle.reg_model.proofs.WorkedRows.{meta, usual, two_units, two_units_lawful}
+use Rattle.reg_model.proofs.WorkedRows.{meta, usual, hit, two_units, two_units_lawful}
 use Rattle.reg_top.specs.declared.items.Item.{Item}
 use Rattle.reg_top.specs.declared.items.Item.TheVariants as items
 use Rattle.reg_top.specs.Lines.{line}
@@ -14,6 +15,7 @@ use Rattle.reg_top.specs.Requests.{AreItems}
 use Rattle.reg_top.specs.History.{history_text}
 use Rattle.reg_top.specs.Words.{RoundPlan}
 use Rattle.reg_top.specs.Output.{IsRunOutput, MakesCalls}
+use Rattle.reg_top.specs.Values.{IsDeclaredValue, IsHitValue, IsRowValue, IsRunValue}
 
 abbrev pub file : List ℕ
 file = line (codes "declare ISCC:AAAQAAAAAAAAAAAA") ++ line (codes "declare ISCC:AAAQAAAAAAAAAAAB") ++ line (codes "near ISCC:AAAQAAAAAAAAAAAA 1")
@@ -86,6 +88,34 @@ read = (
   ),
 )
 
+-- each number of the three rows is in range
+values : IsRunValue nothing (round ∷ [])
+values = record {
+  carried = All-nil IsDeclaredValue;
+  rows = All-from_recursion (λ (r : RoundRows). All IsRowValue r.rows) (round ∷ []) (
+    All-from_recursion IsRowValue two_units (
+      record { session = lit< tt; number = lit< tt; call = record { kind = lit< tt; body = lit< tt }; point = lit< tt; reply = lit< tt },
+      (
+        record { session = lit< tt; number = lit< tt; call = record { kind = lit< tt; body = lit< tt }; point = lit< tt; reply = lit< tt },
+        (
+          record {
+            session = lit< tt;
+            number = lit< tt;
+            call = (record { kind = lit< tt; body = lit< tt }, lit< tt);
+            point = lit< tt;
+            reply = All-from_recursion IsHitValue (hit 0 0 0 ∷ hit 1 1 1 ∷ []) (
+              record { id = lit< tt; body = lit< tt; distance = lit< tt },
+              (record { id = lit< tt; body = lit< tt; distance = lit< tt }, tt),
+            );
+          },
+          tt,
+        ),
+      ),
+    ),
+    tt,
+  );
+}
+
 pub run_output : IsRunOutput nothing plan files output
 unfolding history_text unit_text bits_of digits
 run_output = record {
@@ -95,5 +125,6 @@ run_output = record {
   sizes = refl;
   calls = (made, tt);
   lawful = lawful;
+  values = values;
   text = refl;
 }

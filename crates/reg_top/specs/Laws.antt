@@ -19,6 +19,7 @@ pub record SameSizes (a b : Limits) : Type 0 where
   pub log : a.log ≡ b.log
   pub callers : a.callers ≡ b.callers
 
+-- the same rows, and sizes that a text doesn't tell apart
 pub record SameRound (a b : RoundRows) : Type 0 where
   pub sizes : SameSizes a.limits b.limits
   pub rows : a.rows ≡ b.rows

@@ -13,6 +13,7 @@ use Rattle.reg_top.specs.Lines.{line, spaced, reply_text, bad_text, kind_of}
 use Rattle.reg_top.specs.Requests.{AreItems, calls_of}
 use Rattle.reg_top.specs.History.{history_text}
 use Rattle.reg_top.specs.Words.{RoundPlan}
+use Rattle.reg_top.specs.Values.{IsRunValue}
 
 -- a line for each item of a file: the refusal, or the reply of the call's row
 abbrev pub item_lines : List Item → List Row → List ℕ
@@ -43,7 +44,7 @@ MakesCalls lists round = (session : ℕ) (list : List Item) → slice_get lists 
 abbrev pub IsFileOf : Files → List ℕ → List Item → Type 0
 IsFileOf files name list = (bytes : List ℕ) × (files name ≡ Some bytes) × AreItems bytes list
 
--- The output is that of one lawful run, which makes the calls of the planned files.
+-- The output is that of one lawful run, whose numbers the program's types can have, and which makes the calls of the planned files.
 pub record IsRunOutput (opening : Opening) (plan : List RoundPlan) (files : Files) (output : List ℕ) : Type 0 where
   pub items : List (List (List Item))
   pub rounds : List RoundRows
@@ -51,6 +52,7 @@ pub record IsRunOutput (opening : Opening) (plan : List RoundPlan) (files : File
   pub sizes : map (λ (p : RoundPlan). p.limits) plan ≡ map (λ (r : RoundRows). r.limits) rounds
   pub calls : AllZip MakesCalls items rounds
   pub lawful : IsHistory opening rounds
+  pub values : IsRunValue opening rounds
   pub text : output ≡ reply_texts 0 items rounds ++ history_text opening rounds
 
 -- a sink that tells its bytes has taken these after those that it had

@@ -1,7 +1,10 @@
 -- The lines of a request file.
-use Rattle.std.specs.Prelude.{◌≡◌, ℕ, ◌≤◌, not, ◌==◌, if◌then◌else◌, List, [], ◌∷◌, ◌++◌, length, filter, Option, Some, None}
+use Rattle.std.specs.Prelude.{◌≡◌, ℕ, ◌≤◌, not, ◌==◌, if◌then◌else◌, List, [], ◌∷◌, ◌++◌, length, filter, Option, Some, None, codes}
+use Rattle.std.specs.Fmt.{decimal}
 use Rattle.std.specs.List.{AllZip, filter_map}
+use Rattle.iscc_header.specs.declared.unit.Unit64.{Unit64}
 use Rattle.iscc_header.specs.Units.{IsUnit}
+use Rattle.iscc_text.specs.UnitText.{unit_text}
 use Rattle.reg_model.specs.declared.TheConstants.{RADIUS_MOST}
 use Rattle.reg_model.specs.declared.call.Call.{Call}
 use Rattle.reg_model.specs.declared.call.Call.TheVariants as calls
@@ -33,6 +36,20 @@ IsRequest call = ⊥
 abbrev pub IsItem : List ℕ → Item → Type 0
 IsItem text (items.Call call) = IsRequest call × (text ≡ call_text call)
 IsItem text (items.Bad why) = (call : Call) → IsRequest call → text ≡ call_text call → ⊥
+
+-- the texts of the two kinds of line that are calls
+abbrev pub declare_line : Unit64 → List ℕ
+declare_line unit = codes "declare " ++ unit_text unit
+
+abbrev pub near_line : Unit64 → ℕ → List ℕ
+near_line unit radius = codes "near " ++ unit_text unit ++ codes " " ++ decimal radius
+
+-- a code is taken where the line has a unit's printed text, and a refused line has none
+abbrev pub TakesCode : List ℕ → Item → Type 0
+TakesCode text (items.Call (calls.Declare unit)) = IsUnit unit × (text ≡ declare_line unit)
+TakesCode text (items.Call (calls.Near unit radius)) = IsUnit unit × (radius ≤ RADIUS_MOST) × (text ≡ near_line unit radius)
+TakesCode text (items.Bad why) = (unit : Unit64) → IsUnit unit → (text ≡ declare_line unit → ⊥) × ((radius : ℕ) → radius ≤ RADIUS_MOST → text ≡ near_line unit radius → ⊥)
+TakesCode text item = ⊥
 
 -- a line adds its item to a list, and an empty line nothing
 abbrev pub AddsLine : List ℕ → List Item → List Item → Type 0

@@ -3,7 +3,8 @@ ghost use Rattle.reg_model.specs.Rows.{is_accepted, IsLawful, session_rows};
 ghost use Rattle.reg_model.specs.Runs.{nothing};
 ghost use Rattle.reg_top.specs.Faults.{HasCause, Rose, Quiet};
 ghost use Rattle.reg_top.specs.Files.{Files};
-ghost use Rattle.reg_top.specs.Requests.{IsRequest, calls_of as calls_asked};
+ghost use Rattle.reg_top.specs.Requests.{IsRequest, IsItem, TakesCode, calls_of as calls_asked};
+ghost use Rattle.reg_top.specs.declared.items.Item.{Item as AnItem};
 ghost use Rattle.reg_top.specs.declared.shelf.FetchFault.TheVariants.{Missing, TooLong};
 ghost use Rattle.reg_top.specs.Words.{plan_of, RoundPlan, IsForm};
 ghost use Rattle.reg_top.specs.Words.Command.{Run};
@@ -41,6 +42,9 @@ pub fn top<F: Shelf, K: Sink>(alloc: Global, words: &Args, shelf: &mut F, sink: 
     // The output holds one history: each call of the named files once, in its file's order, with the registry's reply there.
     ensures run { (plan : List RoundPlan) → IsForm words.now (Run plan) → result ≡ 0
         → WritesRun plan (F.files shelf.old) (K.taken sink.old) (K.taken sink.new) }
+
+    // A line is taken as a code exactly where it has a unit's printed text.
+    ensures text { (text : List ℕ) (item : AnItem) → IsItem text item → TakesCode text item }
 
     // Each status has its cause, in this order.
     ensures words { Exactly result 2 (HasNoForm words.now) }

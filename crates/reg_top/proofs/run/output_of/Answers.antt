@@ -28,5 +28,5 @@ returns c = λ files name held.
     let rows = c.in_ok-rows.rows.items in
     let asked : map (λ (row : Row). row.call) rows ≡ calls_of c.in_ok-items.items = rw (← c.as_slice.ensures) c.in_ok-rows.ensures.calls in
     let lawful : IsLawful (usual_limits 1) nothing rows = subst (λ (limits : Limits). IsLawful limits nothing rows) is c.in_ok-rows.ensures.lawful in
-    run_output files name c.args.file.now c.in_ok-items.items rows _ held c.in_ok-items.ensures asked c.in_ok-rows.ensures.alone lawful
+    run_output files name c.args.file.now c.in_ok-items.items rows _ held c.requires c.in_ok-items.ensures asked c.in_ok-rows.ensures.alone lawful
     (rw (c.in_ok-print_history.ensures, c.in_ok-print_replies.ensures, c.new-output.ensures.items, c.as_slice-2.ensures, c.as_slice-3.ensures.value, c.as_slice-4.ensures.value, is) refl)

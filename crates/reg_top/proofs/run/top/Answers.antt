@@ -1,4 +1,5 @@
 use Rattle.std.proofs.Common.{arith}
+use Rattle.reg_top.proofs.OneRound.{takes_code}
 use Rattle.reg_top.proofs.Causes.{words_exactly, missing_exactly, too_long_exactly, known_status, no_words, no_stop}
 use Rattle.reg_top.proofs.run.top.Goals.{in-None, in-Some}
 use Rattle.reg_top.proofs.run.top.Goals as goal
@@ -23,3 +24,6 @@ returns-clause-too_long g c = elim c.match-run_file.branch [
 
 pub returns-clause-known : goal.returns-clause-known
 returns-clause-known g c = rw c.number.ensures (known_status c.match-run_file.status)
+
+pub returns-clause-text : goal.returns-clause-text
+returns-clause-text g c = takes_code

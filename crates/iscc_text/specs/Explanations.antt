@@ -1,0 +1,52 @@
+-- The explanation of a code, as JSON data. The names are those of ISO 24138:2024.
+use Rattle.std.specs.Prelude.{◌≡◌, ◌*◌, ◌++◌, ℕ, List, length, codes, ◌==◌, ◌||◌, if◌then◌else◌}
+use Rattle.serde_json.specs.Data.{Data, number, unsigned, string, object, member, no_members}
+use Rattle.hex.specs.Hex.{encode_lower}
+use Rattle.iscc_header.specs.Bits.{byte_bits}
+use Rattle.iscc_header.specs.Kinds.{main_of, sub_of}
+use Rattle.iscc_code.specs.Units.{UnitParts}
+use Rattle.iscc_code.specs.Codes.{SpellsIscc}
+use Rattle.iscc_code.specs.declared.iscc.Iscc.{Iscc}
+use Rattle.iscc_code.specs.declared.iscc.Iscc.TheVariants as variants
+use Rattle.iscc_text.specs.Base32.{letters}
+
+-- the name of a MainType, by its number
+abbrev pub main_name : ℕ → List ℕ
+main_name main =
+    if main == 0 then codes "META"
+    else if main == 1 then codes "SEMANTIC"
+    else if main == 2 then codes "CONTENT"
+    else if main == 3 then codes "DATA"
+    else if main == 4 then codes "INSTANCE"
+    else codes "ISCC"
+
+-- the name of a SubType: SEMANTIC and CONTENT have media, the other units have none
+abbrev pub sub_name : ℕ → ℕ → List ℕ
+sub_name main sub =
+    if (main == 1) || (main == 2) then
+    if sub == 0 then codes "TEXT"
+    else if sub == 1 then codes "IMAGE"
+    else if sub == 2 then codes "AUDIO"
+    else if sub == 3 then codes "VIDEO"
+    else codes "MIXED"
+    else codes "NONE"
+
+-- a unit with its printed text: the members in the order of their keys
+abbrev pub unit_data : UnitParts → List ℕ → Data
+unit_data unit text =
+    object
+    (member (codes "bits") (number (unsigned (8 * length unit.body)))
+    (member (codes "body") (string (encode_lower unit.body))
+    (member (codes "main") (string (main_name (main_of unit.kind)))
+    (member (codes "sub") (string (sub_name (main_of unit.kind) (sub_of unit.kind)))
+    (member (codes "text") (string text) no_members)))))
+
+-- the data of a code with this text
+abbrev pub iscc_data : Iscc → List ℕ → Data
+iscc_data (variants.Unit unit) text = unit_data unit text
+
+-- this data explains the code: it has the code's printed text
+pub record Explains (iscc : Iscc) (explanation : Data) : Type 0 where
+  pub spelling : List ℕ
+  pub spelled : SpellsIscc iscc spelling
+  pub same : explanation ≡ iscc_data iscc (codes "ISCC:" ++ letters (byte_bits spelling))
