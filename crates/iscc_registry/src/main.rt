@@ -16,21 +16,18 @@ use std::process::ExitCode;
 use std::rt::Env;
 use std::{env, io};
 
-// The statuses of words that can't be handed on: those that are no text, and those for which there is no memory.
-const WORDS: u8 = 2;
-
+// The status where there is no memory for the words; nothing is written then.
 const MEMORY: u8 = 6;
 
 fn main(rt: HostRuntime) -> ExitCode {
+    let mut shelf = FileShelf::new(&rt);
+    let mut sink = OutSink::new(&rt);
     let status = match words(&rt) {
-        Ok(words) => {
-            let mut shelf = FileShelf::new(&rt);
-            let mut sink = OutSink::new(&rt);
-            top(rt.alloc(), &words, &mut shelf, &mut sink)
-        }
+        Ok(words) => top(rt.alloc(), &words, &mut shelf, &mut sink),
         Err(fault) => match fault.kind() {
             ErrorKind::OutOfMemory => MEMORY,
-            _ => WORDS,
+            // Words that are no text are of no form, as no words are.
+            _ => top(rt.alloc(), &Args::new(rt.alloc()), &mut shelf, &mut sink),
         },
     };
     ExitCode::from(status)

@@ -1,15 +1,16 @@
 -- When the top call answers which status.
-use Rattle.std.specs.Prelude.{◌≡◌, ◌⊎◌, ℕ, ◌-◌, ◌<◌, ◌^◌, nat_le, if◌then◌else◌, List, [], ◌∷◌, length, Option, Some, None, IfSome, IsSomeAnd}
-use Rattle.std.specs.List.{flat_map}
+use Rattle.std.specs.Prelude.{◌≡◌, ◌⊎◌, ℕ, ◌-◌, ◌<◌, ◌^◌, nat_le, if◌then◌else◌, List, [], ◌∷◌, length, Option, Some, None, IfSome}
 use Rattle.reg_top.specs.declared.shelf.FetchFault.{FetchFault}
 use Rattle.reg_top.specs.declared.shelf.FetchFault.TheVariants.{Missing, TooLong}
 use Rattle.reg_top.specs.declared.status.Status.{Status}
 use Rattle.reg_top.specs.declared.status.Status.TheVariants as status
-use Rattle.reg_top.specs.Faults.{Quiet, Rose}
+use Rattle.reg_top.specs.Faults.{Quiet}
 use Rattle.reg_top.specs.Files.{Files}
-use Rattle.reg_top.specs.Output.{WritesRun, WritesFront}
-use Rattle.reg_top.specs.Words.{Command, RoundPlan, IsForm, plan_of}
-use Rattle.reg_top.specs.Words.Command.{Run}
+use Rattle.reg_top.specs.Words.{Command, RoundPlan, IsForm, fetched_names}
+use Rattle.reg_top.specs.Words.Command.{Run, Explain}
+use Rattle.iscc_code.specs.declared.iscc.Iscc.{Iscc}
+use Rattle.iscc_text.specs.declared.read.TextFault.{TextFault}
+use Rattle.iscc_text.specs.Texts.{StandsFor, HasTextFault}
 
 -- The status comes only where P holds, and where P holds it comes, unless memory is wanting.
 pub record Exactly (result status : ℕ) (P : Type 0) : Type 0 where
@@ -19,10 +20,6 @@ pub record Exactly (result status : ℕ) (P : Type 0) : Type 0 where
 -- no command has these words
 abbrev pub HasNoForm : List (List ℕ) → Type 0
 HasNoForm words = (command : Command) → IsForm words command → ⊥
-
--- the names of the files that a run fetches, in order
-abbrev pub fetched_names : List RoundPlan → List (List ℕ)
-fetched_names plan = flat_map (λ round. round.names) plan
 
 -- a file that isn't there or is too long, and else what comes of the next
 abbrev pub refusal_then : ℕ → Option (List ℕ) → Option FetchFault → Option FetchFault
@@ -63,27 +60,16 @@ status_number status.Read = 4
 status_number status.Write = 5
 status_number status.Memory = 6
 status_number status.TooLong = 7
+status_number status.Refused = 10
 
 -- the statuses there are
 abbrev pub statuses : List ℕ
-statuses = 0 ∷ 2 ∷ 3 ∷ 4 ∷ 5 ∷ 6 ∷ 7 ∷ []
+statuses = 0 ∷ 2 ∷ 3 ∷ 4 ∷ 5 ∷ 6 ∷ 7 ∷ 10 ∷ []
 
--- ---- what the parts of a run tell
+-- a text that a command is given stands for no code
+abbrev pub IsRefused : List (List ℕ) → Type 0
+IsRefused words = (text : List ℕ) × (fault : TextFault) × IsForm words (Explain text) × HasTextFault text fault
 
--- why a run of this file makes no output
-abbrev pub Stops : List ℕ → Option Files → ℕ → ℕ → Status → Type 0
-Stops name files before now status.Missing = (now ≡ before) × IfSome files (λ map. map name ≡ None)
-Stops name files before now status.TooLong = (now ≡ before) × IfSome files (λ map. IsSomeAnd (map name) (λ bytes. request_limit < length bytes))
-Stops name files before now status.Read = Rose before now
-Stops name files before now status.Memory = Unit {0}
-Stops name files before now other = ⊥
-
--- the file is there and in limit
-abbrev pub IsServed : List ℕ → Option Files → Type 0
-IsServed name files = IfSome files (λ map. first_refusal request_limit map (name ∷ []) ≡ None)
-
--- how a run of this file ends: with the counts of faults of shelf and sink, and the bytes of the sink
-abbrev pub Ends : List ℕ → Option Files → ℕ → ℕ → Option (List ℕ) → Option (List ℕ) → ℕ → ℕ → Status → Type 0
-Ends name files before now taken after was faults status.Done = IsServed name files × (now ≡ before) × (faults ≡ was) × WritesRun (plan_of name) files taken after
-Ends name files before now taken after was faults status.Write = IsServed name files × (now ≡ before) × Rose was faults × WritesFront (plan_of name) files taken after
-Ends name files before now taken after was faults other = Stops name files before now other × (faults ≡ was) × (after ≡ taken)
+-- a text that stands for a code is explained, or memory is wanting
+abbrev pub IsExplained : ℕ → List (List ℕ) → Type 0
+IsExplained result words = (text : List ℕ) (iscc : Iscc) → IsForm words (Explain text) → StandsFor text iscc → (result ≡ 0) ⊎ (result ≡ 6)

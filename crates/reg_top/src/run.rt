@@ -1,15 +1,17 @@
 ghost use Rattle.std.specs.Prelude.{◌≡◌, ◌≢◌, ◌<◌, ◌≤◌, ◌^◌, [], List, ℕ, Some, IfOk, IfSome, OnOk, IsErr, MatchResult, Contains, All, length, map, count_by};
 ghost use Rattle.reg_model.specs.Rows.{is_accepted, IsLawful, session_rows};
 ghost use Rattle.reg_model.specs.Runs.{nothing};
-ghost use Rattle.reg_top.specs.Faults.{HasCause, Rose, Quiet};
+ghost use Rattle.reg_top.specs.Faults.{Rose, Quiet};
 ghost use Rattle.reg_top.specs.Files.{Files};
 ghost use Rattle.reg_top.specs.Requests.{IsRequest, IsItem, TakesCode, calls_of as calls_asked};
 ghost use Rattle.reg_top.specs.declared.items.Item.{Item as AnItem};
 ghost use Rattle.reg_top.specs.declared.shelf.FetchFault.TheVariants.{Missing, TooLong};
-ghost use Rattle.reg_top.specs.Words.{plan_of, RoundPlan, IsForm};
-ghost use Rattle.reg_top.specs.Words.Command.{Run};
-ghost use Rattle.reg_top.specs.Statuses.{Exactly, HasNoForm, IsStopStatus, IsDone, statuses, Stops, IsServed, Ends};
-ghost use Rattle.reg_top.specs.Output.{IsRunOutput, TakesWhole, TakesPart, WritesRun, WritesFront};
+ghost use Rattle.reg_top.specs.Words.{plan_of, RoundPlan, IsForm, IsSideCommand};
+ghost use Rattle.reg_top.specs.Words.Command.{Run, Explain};
+ghost use Rattle.reg_top.specs.FaultLines.{TellsStatus};
+ghost use Rattle.reg_top.specs.Ends.{Stops, IsServed, Ends, IsOutcome};
+ghost use Rattle.reg_top.specs.Statuses.{Exactly, HasNoForm, IsStopStatus, IsRefused, IsDone, IsExplained, statuses, status_number};
+ghost use Rattle.reg_top.specs.Output.{IsRunOutput, WritesRun, WritesFront, WritesExplanation, ExplainsFront};
 
 use crate::args::Args;
 use crate::cut::read_items;
@@ -18,9 +20,11 @@ use crate::items::Item;
 use crate::replies::print_replies;
 use crate::serve::serve;
 use crate::shelf::{FetchFault, Shelf};
+use crate::side_commands::side;
 use crate::sink::{Failed, Sink};
 use crate::status::Status;
 use crate::words::run_file;
+use crate::write::{tell, tell_status, write_all};
 use iscc_header::NoMemory;
 use reg_model::{Call, Carried, Plain, Reply, Row, Sizes, StartFault};
 use std::alloc::Global;
@@ -37,7 +41,7 @@ const BITS: u32 = 12;
 
 /// Does what the words say, and answers the status: docs/FORMATS.md has the words and the statuses.
 ///
-/// Always returns. On status 5 the sink has a front of the output, and on every other status but 0 nothing more than before.
+/// Always returns. On status 5 the sink has a front of the output, and on every other status but 0 a line that tells it.
 pub fn top<F: Shelf, K: Sink>(alloc: Global, words: &Args, shelf: &mut F, sink: &mut K) -> u8
     // The output holds one history: each call of the named files once, in its file's order, with the registry's reply there.
     ensures run { (plan : List RoundPlan) → IsForm words.now (Run plan) → result ≡ 0
@@ -46,29 +50,58 @@ pub fn top<F: Shelf, K: Sink>(alloc: Global, words: &Args, shelf: &mut F, sink: 
     // A line is taken as a code exactly where it has a unit's printed text.
     ensures text { (text : List ℕ) (item : AnItem) → IsItem text item → TakesCode text item }
 
+    // The output is the explanation of the given text.
+    ensures explain { (text : List ℕ) → IsForm words.now (Explain text) → result ≡ 0
+        → WritesExplanation text (K.taken sink.old) (K.taken sink.new) }
+
     // Each status has its cause, in this order.
     ensures words { Exactly result 2 (HasNoForm words.now) }
     ensures missing { IsStopStatus result 3 words.now (F.files shelf.old) Missing (F.fetch_faults shelf.old) (F.fetch_faults shelf.new) }
     ensures too_long { IsStopStatus result 7 words.now (F.files shelf.old) TooLong (F.fetch_faults shelf.old) (F.fetch_faults shelf.new) }
     ensures read { result ≡ 4 → Rose (F.fetch_faults shelf.old) (F.fetch_faults shelf.new) }
+    ensures refused { Exactly result 10 (IsRefused words.now) }
     ensures write { result ≡ 5 → Rose (K.faults sink.old) (K.faults sink.new) }
     ensures known { Contains statuses result }
 
-    // Without faults, accepted words and files are served, or memory is wanting.
+    // Without faults, accepted words, files and texts are served, or memory is wanting.
     ensures done { Quiet (F.fetch_faults shelf.old) (F.fetch_faults shelf.new) → Quiet (K.faults sink.old) (K.faults sink.new)
         → IsDone result words.now (F.files shelf.old) }
+    ensures explained { Quiet (K.faults sink.old) (K.faults sink.new) → IsExplained result words.now }
 
     // What the sink and the shelf have afterwards.
     ensures cut_short { (plan : List RoundPlan) → IsForm words.now (Run plan) → result ≡ 5
         → WritesFront plan (F.files shelf.old) (K.taken sink.old) (K.taken sink.new) }
-    ensures silent { result ≢ 0 → result ≢ 5 → K.taken sink.new ≡ K.taken sink.old }
+    ensures explain_cut { (text : List ℕ) → IsForm words.now (Explain text) → result ≡ 5
+        → ExplainsFront text (K.taken sink.old) (K.taken sink.new) }
+    ensures told { result ≢ 0 → result ≢ 5
+        → TellsStatus words.now result (K.taken sink.old) (K.taken sink.new) (K.faults sink.old) (K.faults sink.new) }
     ensures same { F.files shelf.new ≡ F.files shelf.old }
 {
-    let status = match run_file(words) {
-        None => Status::Words,
+    match side(alloc, words, shelf, sink) {
+        Some(status) => status,
+        None => serve_words(alloc, words, shelf, sink).number(),
+    }
+}
+
+// The commands that serve calls.
+fn serve_words<F: Shelf, K: Sink>(
+    alloc: Global,
+    words: &Args,
+    shelf: &mut F,
+    sink: &mut K,
+) -> Status
+    requires { IsSideCommand words.now → ⊥ }
+    ensures outcome { IsOutcome words.now (F.files shelf.old) (F.fetch_faults shelf.old) (F.fetch_faults shelf.new)
+        (K.taken sink.old) (K.taken sink.new) (K.faults sink.old) (K.faults sink.new) (status_number result) }
+    ensures same { F.files shelf.new ≡ F.files shelf.old }
+{
+    match run_file(words) {
+        None => {
+            tell(sink, b"fault 2 words", b"");
+            Status::Words
+        }
         Some(name) => run(alloc, name, shelf, sink),
-    };
-    status.number()
+    }
 }
 
 // Fetches the file, serves its calls, and writes the output.
@@ -78,7 +111,10 @@ fn run<F: Shelf, K: Sink>(alloc: Global, name: &str, shelf: &mut F, sink: &mut K
     ensures same { F.files shelf.new ≡ F.files shelf.old }
 {
     match make_output(alloc, name, shelf) {
-        Err(status) => status,
+        Err(status) => {
+            tell_status(sink, status, name);
+            status
+        }
         Ok(output) => match write_all(sink, output.as_slice()) {
             Ok(()) => Status::Done,
             Err(Failed) => Status::Write,
@@ -183,19 +219,4 @@ fn start(alloc: Global, sizes: &Sizes) -> Result<Plain, NoMemory>
         // Nothing is carried, and a log that begins with the id 0 ends in range.
         Err(_) => unreachable!(),
     }
-}
-
-// Writes all bytes, or those before a fault.
-fn write_all<K: Sink>(sink: &mut K, bytes: &[u8]) -> Result<(), Failed>
-    ensures takes { MatchResult result
-        (λ _. TakesWhole (K.taken sink.old) (K.taken sink.new) bytes.now)
-        (λ _. TakesPart (K.taken sink.old) (K.taken sink.new) bytes.now) }
-    ensures cause { HasCause (K.faults sink.old) (K.faults sink.new) (IsErr result) }
-{
-    let mut rest = bytes;
-    while !rest.is_empty() {
-        let taken = sink.put(rest)?;
-        rest = &rest[taken..];
-    }
-    Ok(())
 }

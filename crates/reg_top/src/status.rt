@@ -18,6 +18,8 @@ pub enum Status {
     Memory,
     /// A file is longer than its limit.
     TooLong,
+    /// A text stands for no code.
+    Refused,
 }
 
 impl Status {
@@ -33,6 +35,7 @@ impl Status {
             Status::Write => 5,
             Status::Memory => 6,
             Status::TooLong => 7,
+            Status::Refused => 10,
         }
     }
 }

@@ -168,11 +168,9 @@ fn the_last_entry_is_taken_and_one_more_declaration_is_refused(
 }
 
 #[test]
-fn other_words_are_refused_before_anything_is_fetched_or_written(
-    rt: HostRuntime,
-) -> Result<(), Fail> {
+fn other_words_are_refused_before_anything_is_fetched(rt: HostRuntime) -> Result<(), Fail> {
     let alloc = rt.alloc();
-    let lists: [&[&str]; 14] = [
+    let lists: [&[&str]; 17] = [
         &[],
         &["run"],
         &["run", ""],
@@ -184,7 +182,10 @@ fn other_words_are_refused_before_anything_is_fetched_or_written(
         &["run", "a.txt", "a.txt"],
         &["Run", "a.txt"],
         &["help"],
-        &["explain", "AAA"],
+        &["explain"],
+        &["explain", ""],
+        &["explain", "-"],
+        &["explain", "AAA", "AAA"],
         &["check", "a.txt"],
         &["a.txt"],
     ];
@@ -195,7 +196,7 @@ fn other_words_are_refused_before_anything_is_fetched_or_written(
             top(alloc, &words_of(alloc, list)?, &mut shelf, &mut sink),
             2
         );
-        assert_eq!(rt; sink.bytes().len(), 0);
+        assert_eq!(rt; taken_text(alloc, &sink)?.as_str(), "fault 2 words\n");
         // The shelf fails at its first call, which is still to come.
         let mut file = Vec::new(alloc);
         assert_eq!(rt; shelf.fetch("a.txt", &mut file, 9), Err(FetchFault::Failed));
@@ -230,32 +231,89 @@ fn words_that_only_look_like_round_marks_name_files(rt: HostRuntime) -> Result<(
 }
 
 #[test]
-fn a_missing_an_unread_and_an_overlong_file_have_statuses_of_their_own(
+fn a_missing_an_unread_and_an_overlong_file_are_told_by_their_names(
     rt: HostRuntime,
 ) -> Result<(), Fail> {
     let alloc = rt.alloc();
-    let mut sink = sink_of(alloc, ROOM, usize::MAX)?;
+    let long = vec![in alloc; b'#'; (1 << 24) + 1]?;
+    let cases: [(&str, &[u8], &[u64], u8, &str); 3] = [
+        ("b.txt", b"", &[], 3, "fault 3 missing b.txt\n"),
+        ("a.txt", b"", &[0], 4, "fault 4 read a.txt\n"),
+        ("a.txt", long.as_slice(), &[], 7, "fault 7 too long a.txt\n"),
+    ];
+    for (name, text, fail, want, line) in cases {
+        let mut shelf = shelf_of(alloc, text, fail)?;
+        let mut sink = sink_of(alloc, ROOM, usize::MAX)?;
+        assert_eq!(rt;
+            top(alloc, &run_words(alloc, name)?, &mut shelf, &mut sink),
+            want
+        );
+        assert_eq!(rt; taken_text(alloc, &sink)?.as_str(), line);
+    }
+    let mut longest = shelf_of(alloc, &long[1..], &[])?;
+    let words = run_words(alloc, "a.txt")?;
+    assert_eq!(rt; top(alloc, &words, &mut longest, &mut SureSink::new()), 0);
+    assert_eq!(rt; longest.file("a.txt").map(<[u8]>::len), Some(1 << 24));
+    Ok(())
+}
+
+#[test]
+fn a_sink_that_fails_in_a_fault_line_leaves_the_status(rt: HostRuntime) -> Result<(), Fail> {
+    let alloc = rt.alloc();
     let mut shelf = shelf_of(alloc, b"", &[])?;
+    let mut sink = sink_of(alloc, ROOM, 10)?;
     assert_eq!(rt;
         top(alloc, &run_words(alloc, "b.txt")?, &mut shelf, &mut sink),
         3
     );
-    let mut failing = shelf_of(alloc, b"", &[0])?;
-    assert_eq!(rt;
-        top(alloc, &run_words(alloc, "a.txt")?, &mut failing, &mut sink),
-        4
+    assert_eq!(rt; taken_text(alloc, &sink)?.as_str(), "fault 3 mi");
+    Ok(())
+}
+
+// The status of an explanation of this text, and what the sink has taken.
+fn explain_text(alloc: Global, text: &str) -> Result<(Option<u8>, String), Fail> {
+    let mut shelf = shelf_of(alloc, b"", &[])?;
+    let mut sink = sink_of(alloc, ROOM, usize::MAX)?;
+    let status = side(
+        alloc,
+        &words_of(alloc, &["explain", text])?,
+        &mut shelf,
+        &mut sink,
     );
-    let long = vec![in alloc; b'#'; (1 << 24) + 1]?;
-    let mut overlong = shelf_of(alloc, long.as_slice(), &[])?;
-    assert_eq!(rt;
-        top(alloc, &run_words(alloc, "a.txt")?, &mut overlong, &mut sink),
-        7
-    );
-    let mut longest = shelf_of(alloc, &long[1..], &[])?;
-    let words = run_words(alloc, "a.txt")?;
-    assert_eq!(rt; top(alloc, &words, &mut longest, &mut SureSink::new()), 0);
-    assert_eq!(rt; sink.bytes().len(), 0);
-    assert_eq!(rt; longest.file("a.txt").map(<[u8]>::len), Some(1 << 24));
+    Ok((status, taken_text(alloc, &sink)?))
+}
+
+#[test]
+fn a_code_is_explained_in_one_line(rt: HostRuntime) -> Result<(), Fail> {
+    let want =
+        "{\"bits\":64,\"body\":\"af1349b9f5f9a1a6\",\"main\":\"INSTANCE\",\"sub\":\"NONE\",\"text\":\"ISCC:IAA26E2JXH27TING\"}\n";
+    let (status, output) = explain_text(rt.alloc(), " iscc:iaa2-6e2j-xh27-ting ")?;
+    assert_eq!(rt; status, Some(0));
+    assert_eq!(rt; output.as_str(), want);
+    Ok(())
+}
+
+#[test]
+fn a_text_that_stands_for_no_code_is_told_with_its_first_fault(
+    rt: HostRuntime,
+) -> Result<(), Fail> {
+    let cases = [
+        ("AAA", "fault 10 text bits\n"),
+        ("IPFS:AAAQ", "fault 10 text scheme\n"),
+        ("ISCC:AA1Q", "fault 10 text letter 7\n"),
+        ("ISCC:", "fault 10 text header\n"),
+        ("KUAAAAAAAAAAAAAAAAAAAAAAAAAAA", "fault 10 text main type\n"),
+        ("AAIQAAAAAAAAAAAA", "fault 10 text version\n"),
+        ("AAEAAAAA", "fault 10 text length\n"),
+        ("AEAQAAAAAAAAAAAA", "fault 10 text sub type\n"),
+        ("AAAQAAAAAAAAA", "fault 10 text short\n"),
+        ("AAAQAAAAAAAAAAAAAA", "fault 10 text long\n"),
+    ];
+    for (text, line) in cases {
+        let (status, output) = explain_text(rt.alloc(), text)?;
+        assert_eq!(rt; status, Some(10), "{text}");
+        assert_eq!(rt; output.as_str(), line, "{text}");
+    }
     Ok(())
 }
 

@@ -1,5 +1,5 @@
 ghost use Rattle.std.specs.Prelude.{ℕ, List, ◌↔◌, IsTrue, IfSome, IfNone};
-ghost use Rattle.reg_top.specs.Words.{IsValue, IsNumber, IsRoundMark, AreSizes, IsRunOf};
+ghost use Rattle.reg_top.specs.Words.{IsValue, IsNumber, IsRoundMark, AreSizes, IsRunOf, IsExplainOf, IsSideCommand};
 
 use crate::args::Args;
 
@@ -17,6 +17,25 @@ pub(crate) fn run_file(words: &Args) -> Option<&str>
     } else {
         None
     }
+}
+
+/// Whether the first word is that of a command that serves nothing.
+pub(crate) fn is_side(words: &Args) -> bool
+    ensures { IsTrue result ↔ IsSideCommand words.now }
+{
+    words.len() > 0 && words.word(0) == "explain"
+}
+
+/// The text that an `explain` is given, where the words are of that form.
+pub(crate) fn explain_text(words: &Args) -> Option<&str>
+    ensures found { IfSome result (λ text. IsExplainOf words.now text.now) }
+    ensures none { IfNone result ((text : List ℕ) → IsExplainOf words.now text → ⊥) }
+{
+    if words.len() != 2 || words.word(0) != "explain" {
+        return None;
+    }
+    let text = words.word(1);
+    if is_value(text) { Some(text) } else { None }
 }
 
 // A word that isn't empty and doesn't begin with `-`.

@@ -1,6 +1,6 @@
 use Rattle.std.proofs.Common.{length}
 use Rattle.reg_top.proofs.Writing.{Written}
-use Rattle.reg_top.proofs.run.write_all.Given as goal
+use Rattle.reg_top.proofs.write.write_all.Given as goal
 
 -- what stands before the rest is written
 abbrev pub invariant-loop-rest : goal.invariant-loop-rest
