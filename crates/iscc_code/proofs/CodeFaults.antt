@@ -1,5 +1,5 @@
 -- The first fault of a header and its body, cause by cause.
-use Rattle.std.proofs.Common.{◌≡◌, ◌≢◌, ℕ, ◌+◌, ◌-◌, ◌*◌, ◌/◌, ◌<◌, ◌≤◌, List, length, get_or, true, false, Some, None, refl, sym, ◌∙◌, ap, ap₂, arith, inl, inr, subst}
+use Rattle.std.proofs.Common.{◌≡◌, ◌≢◌, ℕ, ◌+◌, ◌-◌, ◌*◌, ◌/◌, ◌<◌, ◌≤◌, List, length, get_or, true, false, Some, None, refl, sym, ◌∙◌, ap, ap₂, arith, inl, inr, subst, lit≤}
 use Rattle.std.specs.Prelude.{Contains, ◌==◌, ◌&&◌, slice_get}
 use Rattle.std.proofs.lemmas.Bool.{lt-ltb, le-ltb, eq-eqb, ne_eqb, eqb-true, cases_Bool, and_parts}
 use Rattle.std.proofs.lemmas.Option.{get_or_from_slice_get, slice_get_within}
@@ -10,45 +10,73 @@ use Rattle.iscc_header.specs.Kinds.{kinds, main_of, sub_of}
 use Rattle.iscc_header.proofs.EachBelow.{each_below}
 use Rattle.iscc_header.proofs.KindFacts.{small_pair}
 use Rattle.iscc_code.specs.Units.{UnitParts, IsBodyLength, IsUnit, unit_header, is_kind}
-use Rattle.iscc_code.specs.Codes.{fault_of}
+use Rattle.iscc_code.specs.Composites.{CodeParts, IsCode, code_header, code_len, code_body, unit_count, is_code_sub}
+use Rattle.iscc_code.specs.Codes.{IsIscc, header_of, body_of, is_sub, body_len, fault_of}
+use Rattle.iscc_code.specs.declared.iscc.Iscc.{Iscc}
+use Rattle.iscc_code.specs.declared.iscc.Iscc.TheVariants as codes
 use Rattle.iscc_code.specs.declared.iscc.IsccFault.TheVariants as faults
+use Rattle.iscc_code.proofs.CodeBodies.{code_len-small, length-code_body}
 
--- a header that some unit has
-pub record IsUnitHeader (header : Numbers) : Type 0 where
-  pub main : header.main ≤ 4
+-- a header that some code has
+pub record IsCodeHeader (header : Numbers) : Type 0 where
+  pub main : header.main ≤ 5
   pub version : header.version ≡ 0
   pub len : header.len ≤ 7
-  pub sub : is_kind header.main header.sub ≡ true
+  pub sub : is_sub header.main header.sub header.len ≡ true
 
-pub main_fault : (h : Numbers) (body : List ℕ) → 4 < h.main → fault_of h body ≡ Some faults.MainType
+pub main_fault : (h : Numbers) (body : List ℕ) → 5 < h.main → fault_of h body ≡ Some faults.MainType
 unfolding fault_of
-main_fault h body l = rw (lt-ltb 4 h.main l) refl
+main_fault h body l = rw (lt-ltb 5 h.main l) refl
 
-pub version_fault : (h : Numbers) (body : List ℕ) → h.main ≤ 4 → h.version ≢ 0 → fault_of h body ≡ Some faults.Version
+pub version_fault : (h : Numbers) (body : List ℕ) → h.main ≤ 5 → h.version ≢ 0 → fault_of h body ≡ Some faults.Version
 unfolding fault_of
-version_fault h body m v = rw (le-ltb 4 h.main m, ne_eqb h.version 0 v) refl
+version_fault h body m v = rw (le-ltb 5 h.main m, ne_eqb h.version 0 v) refl
 
-pub length_fault : (h : Numbers) (body : List ℕ) → h.main ≤ 4 → h.version ≡ 0 → 7 < h.len → fault_of h body ≡ Some faults.Length
+pub length_fault : (h : Numbers) (body : List ℕ) → h.main ≤ 5 → h.version ≡ 0 → 7 < h.len → fault_of h body ≡ Some faults.Length
 unfolding fault_of
-length_fault h body m v l = rw (le-ltb 4 h.main m, eq-eqb h.version 0 v, lt-ltb 7 h.len l) refl
+length_fault h body m v l = rw (le-ltb 5 h.main m, eq-eqb h.version 0 v, lt-ltb 7 h.len l) refl
 
-pub sub_fault : (h : Numbers) (body : List ℕ) → h.main ≤ 4 → h.version ≡ 0 → h.len ≤ 7 → is_kind h.main h.sub ≡ false → fault_of h body ≡ Some faults.SubType
+pub sub_fault : (h : Numbers) (body : List ℕ) → h.main ≤ 5 → h.version ≡ 0 → h.len ≤ 7 → is_sub h.main h.sub h.len ≡ false → fault_of h body ≡ Some faults.SubType
 unfolding fault_of
-sub_fault h body m v l k = rw (le-ltb 4 h.main m, eq-eqb h.version 0 v, le-ltb 7 h.len l, k) refl
+sub_fault h body m v l k = rw (le-ltb 5 h.main m, eq-eqb h.version 0 v, le-ltb 7 h.len l, k) refl
 
-pub short_fault : (h : Numbers) (body : List ℕ) → IsUnitHeader h → length body < 4 * (h.len + 1) → fault_of h body ≡ Some faults.Short
+pub short_fault : (h : Numbers) (body : List ℕ) → IsCodeHeader h → length body < body_len h.main h.len → fault_of h body ≡ Some faults.Short
 unfolding fault_of
-short_fault h body u s = rw (le-ltb 4 h.main u.main, eq-eqb h.version 0 u.version, le-ltb 7 h.len u.len, u.sub, lt-ltb (length body) (4 * (h.len + 1)) s) refl
+short_fault h body u s = rw (le-ltb 5 h.main u.main, eq-eqb h.version 0 u.version, le-ltb 7 h.len u.len, u.sub, lt-ltb (length body) (body_len h.main h.len) s) refl
 
-pub long_fault : (h : Numbers) (body : List ℕ) → IsUnitHeader h → 4 * (h.len + 1) < length body → fault_of h body ≡ Some faults.Long
+pub long_fault : (h : Numbers) (body : List ℕ) → IsCodeHeader h → body_len h.main h.len < length body → fault_of h body ≡ Some faults.Long
 unfolding fault_of
 long_fault h body u s =
-    rw (le-ltb 4 h.main u.main, eq-eqb h.version 0 u.version, le-ltb 7 h.len u.len, u.sub, le-ltb (length body) (4 * (h.len + 1)) (omega arith), lt-ltb (4 * (h.len + 1)) (length body) s) refl
+    rw (le-ltb 5 h.main u.main, eq-eqb h.version 0 u.version, le-ltb 7 h.len u.len, u.sub, le-ltb (length body) (body_len h.main h.len) (omega arith), lt-ltb (body_len h.main h.len) (length body) s) refl
 
-pub no_fault : (h : Numbers) (body : List ℕ) → IsUnitHeader h → length body ≡ 4 * (h.len + 1) → fault_of h body ≡ None
+pub no_fault : (h : Numbers) (body : List ℕ) → IsCodeHeader h → length body ≡ body_len h.main h.len → fault_of h body ≡ None
 unfolding fault_of
 no_fault h body u s =
-    rw (le-ltb 4 h.main u.main, eq-eqb h.version 0 u.version, le-ltb 7 h.len u.len, u.sub, le-ltb (length body) (4 * (h.len + 1)) (omega arith), le-ltb (4 * (h.len + 1)) (length body) (omega arith)) refl
+    rw (le-ltb 5 h.main u.main, eq-eqb h.version 0 u.version, le-ltb 7 h.len u.len, u.sub, le-ltb (length body) (body_len h.main h.len) (omega arith), le-ltb (body_len h.main h.len) (length body) (omega arith)) refl
+
+-- the headers of units
+pub unit_sub : (main sub len : ℕ) → main ≤ 4 → is_sub main sub len ≡ is_kind main sub
+unfolding is_sub
+unit_sub main sub len m = rw (ne_eqb main 5 (λ e. omega arith)) refl
+
+pub unit_body_len : (main len : ℕ) → main ≤ 4 → body_len main len ≡ 4 * (len + 1)
+unfolding body_len
+unit_body_len main len m = rw (ne_eqb main 5 (λ e. omega arith)) refl
+
+-- the headers of ISCC-CODEs
+pub composite_sub : (main sub len : ℕ) → main ≡ 5 → is_sub main sub len ≡ is_code_sub len sub
+unfolding is_sub
+composite_sub main sub len m = rw (eq-eqb main 5 m) refl
+
+pub composite_body_len : (main len : ℕ) → main ≡ 5 → body_len main len ≡ 8 * unit_count len
+unfolding body_len
+composite_body_len main len m = rw (eq-eqb main 5 m) refl
+
+pub unit_header_from : (h : Numbers) → h.main ≤ 4 → h.version ≡ 0 → h.len ≤ 7 → is_kind h.main h.sub ≡ true → IsCodeHeader h
+unit_header_from h m v l k = record { main = omega arith; version = v; len = l; sub = unit_sub h.main h.sub h.len m ∙ k }
+
+pub composite_header_from : (h : Numbers) → h.main ≡ 5 → h.version ≡ 0 → h.len ≤ 7 → is_code_sub h.len h.sub ≡ true → IsCodeHeader h
+composite_header_from h m v l k = record { main = omega arith; version = v; len = l; sub = composite_sub h.main h.sub h.len m ∙ k }
 
 -- each kind's pair is one of the table
 pub is_kind-pair : (k : ℕ) → k < 13 → is_kind (main_of k) (sub_of k) ≡ true
@@ -93,16 +121,30 @@ kind_above main sub h =
 pub length_of_body : (n : ℕ) → IsBodyLength n → (n ≡ 4 * (n / 4 - 1 + 1)) × (n / 4 - 1 ≤ 7)
 length_of_body n h = (omega (arith, h.least, h.most, h.fours), omega (arith, h.least, h.most, h.fours))
 
-pub unit_header_is : (unit : UnitParts) → IsUnit unit → IsUnitHeader (unit_header unit)
-unit_header_is unit h = record {
-  main = omega (arith, (small_pair unit.kind h.kind).0);
+unit_header_is : (unit : UnitParts) → IsUnit unit → IsCodeHeader (unit_header unit)
+unit_header_is unit h =
+    let small = small_pair unit.kind h.kind in
+    record {
+      main = omega (arith, small.0);
+      version = refl;
+      len = (length_of_body (length unit.body) h.len).1;
+      sub = unit_sub (main_of unit.kind) (sub_of unit.kind) (length unit.body / 4 - 1) (omega (arith, small.0)) ∙ is_kind-pair unit.kind h.kind;
+    }
+
+composite_header_is : (code : CodeParts) → IsCode code → IsCodeHeader (code_header code)
+composite_header_is code h = record {
+  main = lit≤ tt;
   version = refl;
-  len = (length_of_body (length unit.body) h.len).1;
-  sub = is_kind-pair unit.kind h.kind;
+  len = code_len-small code;
+  sub = composite_sub 5 code.sub (code_len code) refl ∙ h.sub;
 }
 
-pub unit_no_fault : (unit : UnitParts) → IsUnit unit → fault_of (unit_header unit) unit.body ≡ None
-unit_no_fault unit h = no_fault (unit_header unit) unit.body (unit_header_is unit h) (length_of_body (length unit.body) h.len).0
+pub no_fault_in : (iscc : Iscc) → IsIscc iscc → fault_of (header_of iscc) (body_of iscc) ≡ None
+no_fault_in (codes.Unit unit) h =
+    no_fault (unit_header unit) unit.body (unit_header_is unit h)
+    ((length_of_body (length unit.body) h.len).0 ∙ sym (unit_body_len (main_of unit.kind) (length unit.body / 4 - 1) (omega (arith, (small_pair unit.kind h.kind).0))))
+no_fault_in (codes.Code code) h =
+    no_fault (code_header code) (code_body code) (composite_header_is code h) (length-code_body code ∙ sym (composite_body_len 5 (code_len code) refl))
 
 -- headers with the same four numbers
 pub same_numbers_of : (g h : Numbers) → g.main ≡ h.main → g.sub ≡ h.sub → g.version ≡ h.version → g.len ≡ h.len → g ≡ h

@@ -1,6 +1,6 @@
 -- Bytes spell one code at most, or have one first fault.
-use Rattle.std.proofs.Common.{◌≡◌, ℕ, List, ◌++◌, length, Some, Result, Ok, Err, refl, sym, ◌∙◌, ap, ap₂, inl, inr}
-use Rattle.std.specs.Prelude.{◌⊎◌, is_ok}
+use Rattle.std.proofs.Common.{◌≡◌, ℕ, List, ◌++◌, length, Some, Result, Ok, Err, refl, sym, ◌∙◌, ap, ap₂, inl, inr, arith, subst}
+use Rattle.std.specs.Prelude.{◌⊎◌, is_ok, MatchResult}
 use Rattle.std.proofs.lemmas.List.{append_cancel_left}
 use Rattle.std.proofs.lemmas.Bool.{false≢true}
 use Rattle.std.proofs.lemmas.Option.{none-some, same_Some}
@@ -11,14 +11,16 @@ use Rattle.iscc_header.specs.declared.header.HeaderFault.{HeaderFault}
 use Rattle.iscc_header.specs.declared.header.HeaderFault.TheVariants as header_faults
 use Rattle.iscc_header.proofs.HeaderReading.{one_header, header_complete, header_short, header_lacking, header_padding}
 use Rattle.iscc_header.proofs.BitLists.{same_bytes}
-use Rattle.iscc_header.proofs.KindFacts.{same_kind, kind_pair}
+use Rattle.iscc_header.proofs.KindFacts.{same_kind, kind_pair, small_pair}
 use Rattle.iscc_code.specs.Units.{UnitParts, IsUnit, unit_header}
-use Rattle.iscc_code.specs.Codes.{IsHeaderAndBody, SpellsIscc, HasHeaderFault, HasBodyFault, HasFault, DecodesTo, IsBehindHeader, fault_of}
+use Rattle.iscc_code.specs.Composites.{CodeParts, code_header}
+use Rattle.iscc_code.specs.Codes.{IsHeaderAndBody, IsIscc, header_of, body_of, SpellsIscc, HasHeaderFault, HasBodyFault, HasFault, DecodesTo, HasParts, IsFirstFault, IsBehindHeader, fault_of}
 use Rattle.iscc_code.specs.declared.iscc.Iscc.{Iscc}
 use Rattle.iscc_code.specs.declared.iscc.Iscc.TheVariants as codes
 use Rattle.iscc_code.specs.declared.iscc.IsccFault.{IsccFault}
 use Rattle.iscc_code.specs.declared.iscc.IsccFault.TheVariants as faults
-use Rattle.iscc_code.proofs.CodeFaults.{unit_no_fault}
+use Rattle.iscc_code.proofs.CodeBodies.{same_composite}
+use Rattle.iscc_code.proofs.CodeFaults.{no_fault_in}
 
 -- one header and one body
 pub same_parts : (bytes : List ℕ) (g h : Numbers) (x y : List ℕ) → IsHeaderAndBody bytes g x → IsHeaderAndBody bytes h y → (g ≡ h) × (x ≡ y)
@@ -28,7 +30,7 @@ same_parts bytes g h x y a b =
     (same.0, append_cancel_left b.front x y (ap (λ front. front ++ x) (sym same.1) ∙ both))
 
 -- a unit is told by its header and its body
-pub same_unit : (u v : UnitParts) → IsUnit u → IsUnit v → unit_header u ≡ unit_header v → u.body ≡ v.body → u ≡ v
+same_unit : (u v : UnitParts) → IsUnit u → IsUnit v → unit_header u ≡ unit_header v → u.body ≡ v.body → u ≡ v
 same_unit u v a b header body =
     let main : main_of u.kind ≡ main_of v.kind = ap (λ (n : Numbers). n.main) header in
     let sub : sub_of u.kind ≡ sub_of v.kind = ap (λ (n : Numbers). n.sub) header in
@@ -36,10 +38,24 @@ same_unit u v a b header body =
     let makes : ℕ → List ℕ → UnitParts = λ k bs. record { kind = k; body = bs } in
     ap₂ makes kind body
 
+-- a unit's MainType isn't that of an ISCC-CODE
+unit_or_composite : (u : UnitParts) (c : CodeParts) → IsUnit u → unit_header u ≡ code_header c → ⊥
+unit_or_composite u c h e =
+    let main : main_of u.kind ≡ 5 = ap (λ (n : Numbers). n.main) e in
+    omega (arith, (small_pair u.kind h.kind).0, main)
+
+-- a code is told by its header and its body
+same_code_from : (a b : Iscc) → IsIscc a → IsIscc b → header_of a ≡ header_of b → body_of a ≡ body_of b → a ≡ b
+same_code_from (codes.Unit u) (codes.Unit v) h k header body = ap codes.Unit (same_unit u v h k header body)
+same_code_from (codes.Unit u) (codes.Code c) h k header body = absurd (unit_or_composite u c h header)
+same_code_from (codes.Code c) (codes.Unit u) h k header body = absurd (unit_or_composite u c k (sym header))
+same_code_from (codes.Code c) (codes.Code d) h k header body =
+    ap codes.Code (same_composite c d h k (ap (λ (n : Numbers). n.len) header) (ap (λ (n : Numbers). n.sub) header) body)
+
 pub same_code : (a b : Iscc) (bytes : List ℕ) → SpellsIscc a bytes → SpellsIscc b bytes → a ≡ b
-same_code (codes.Unit u) (codes.Unit v) bytes a b =
-    let same = same_parts bytes (unit_header u) (unit_header v) u.body v.body a.parts b.parts in
-    ap codes.Unit (same_unit u v a.valid b.valid same.0 same.1)
+same_code a b bytes s t =
+    let same = same_parts bytes (header_of a) (header_of b) (body_of a) (body_of b) s.parts t.parts in
+    same_code_from a b s.valid t.valid same.0 same.1
 
 -- the answer of a reader of headers that has this fault
 reads_fault : (bytes : List ℕ) (fault : HeaderFault) → HasHeaderFault bytes fault → ReadsHeader bytes (Err fault)
@@ -84,10 +100,10 @@ same_fault bytes f g (inr a) (inr b) = same_body_fault bytes f g a b
 
 -- a code has no fault
 faultless : (iscc : Iscc) (bytes : List ℕ) (fault : IsccFault) → SpellsIscc iscc bytes → Cases bytes fault → ⊥
-faultless (codes.Unit u) bytes fault s (inl a) = headless bytes a.0 (unit_header u) u.body a.2 s.parts
-faultless (codes.Unit u) bytes fault s (inr a) =
-    let same = same_parts bytes (unit_header u) a.header u.body a.body s.parts a.parts in
-    none-some fault (sym (unit_no_fault u s.valid) ∙ ap₂ fault_of same.0 same.1 ∙ a.first)
+faultless iscc bytes fault s (inl a) = headless bytes a.0 (header_of iscc) (body_of iscc) a.2 s.parts
+faultless iscc bytes fault s (inr a) =
+    let same = same_parts bytes (header_of iscc) a.header (body_of iscc) a.body s.parts a.parts in
+    none-some fault (sym (no_fault_in iscc s.valid) ∙ ap₂ fault_of same.0 same.1 ∙ a.first)
 
 pub one_answer : (bytes : List ℕ) (a b : Result Iscc IsccFault) → DecodesTo bytes a → DecodesTo bytes b → a ≡ b
 one_answer bytes (Ok u) (Ok v) a b = ap Ok (same_code u v bytes a b)
@@ -96,7 +112,7 @@ one_answer bytes (Err f) (Ok u) a b = absurd (faultless u bytes f b (fault_cases
 one_answer bytes (Err f) (Err g) a b = ap Err (same_fault bytes f g (fault_cases bytes f a) (fault_cases bytes g b))
 
 -- a fault behind the header is one of the bytes
-pub behind_header : (bytes : List ℕ) (fault : IsccFault) → IsBehindHeader fault → HasBodyFault bytes fault → HasFault bytes fault
+behind_header : (bytes : List ℕ) (fault : IsccFault) → IsBehindHeader fault → HasBodyFault bytes fault → HasFault bytes fault
 behind_header bytes (faults.Header f) b h = absurd b
 behind_header bytes faults.MainType b h = h
 behind_header bytes faults.Version b h = h
@@ -105,12 +121,23 @@ behind_header bytes faults.SubType b h = h
 behind_header bytes faults.Short b h = h
 behind_header bytes faults.Long b h = h
 
+-- what is read from a header and what is behind it
+pub decodes_from : (bytes front body : List ℕ) (h : Numbers) (r : Result Iscc IsccFault) → SpellsHeader h front → bytes ≡ front ++ body → MatchResult r (HasParts h body) (IsFirstFault h body) → DecodesTo bytes r
+decodes_from bytes front body h (Ok iscc) s e has =
+    let P : Numbers → Type 0 = λ n. SpellsHeader n front in
+    record {
+      valid = has.valid;
+      parts = record { front = front; spelled = subst P (sym has.its_header) s; whole = e ∙ ap (λ rest. front ++ rest) (sym has.its_body) };
+    }
+decodes_from bytes front body h (Err fault) s e has =
+    behind_header bytes fault has.behind (record { header = h; body = body; parts = record { front = front; spelled = s; whole = e }; first = has.first })
+
 -- a code has one spelling
 same_front : (h : Numbers) (a b : List ℕ) → SpellsHeader h a → SpellsHeader h b → a ≡ b
 same_front h a b s t = same_bytes a b s.range t.range (s.spelled ∙ sym t.spelled)
 
 pub same_spelling : (iscc : Iscc) (a b : List ℕ) → SpellsIscc iscc a → SpellsIscc iscc b → a ≡ b
-same_spelling (codes.Unit u) a b s t =
+same_spelling iscc a b s t =
     s.parts.whole
-    ∙ ap (λ front. front ++ u.body) (same_front (unit_header u) s.parts.front t.parts.front s.parts.spelled t.parts.spelled)
+    ∙ ap (λ front. front ++ body_of iscc) (same_front (header_of iscc) s.parts.front t.parts.front s.parts.spelled t.parts.spelled)
     ∙ sym t.parts.whole

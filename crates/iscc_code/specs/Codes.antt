@@ -1,10 +1,12 @@
 -- The spelling of a code as bytes, and the fault of bytes that spell none (ISO 24138:2024).
-use Rattle.std.specs.Prelude.{◌≡◌, ◌+◌, ◌*◌, ℕ, List, ◌++◌, length, nat_lt, ◌==◌, not, if◌then◌else◌, Option, Some, None, Result, Ok, Err}
+use Rattle.std.specs.Prelude.{◌≡◌, ◌+◌, ◌*◌, ℕ, List, [], ◌∷◌, ◌++◌, length, nat_lt, ◌==◌, not, if◌then◌else◌, Bool, Option, Some, None, Result, Ok, Err}
 use Rattle.iscc_header.specs.Bits.{byte_bits}
 use Rattle.iscc_header.specs.Headers.{Numbers, SpellsHeader, EndsWithinHeader, LacksNumber, IsPaddedWrongly}
 use Rattle.iscc_header.specs.declared.header.HeaderFault.{HeaderFault}
 use Rattle.iscc_header.specs.declared.header.HeaderFault.TheVariants as header_faults
-use Rattle.iscc_code.specs.Units.{UnitParts, IsUnit, unit_header, is_kind}
+use Rattle.iscc_header.specs.declared.unit.Unit64.{Unit64}
+use Rattle.iscc_code.specs.Units.{IsUnit, unit_header, is_kind, first64_of}
+use Rattle.iscc_code.specs.Composites.{IsCode, code_header, code_body, code_units, unit_count, is_code_sub}
 use Rattle.iscc_code.specs.declared.iscc.Iscc.{Iscc}
 use Rattle.iscc_code.specs.declared.iscc.Iscc.TheVariants as codes
 use Rattle.iscc_code.specs.declared.iscc.IsccFault.{IsccFault}
@@ -16,24 +18,46 @@ pub record IsHeaderAndBody (bytes : List ℕ) (header : Numbers) (body : List �
   pub spelled : SpellsHeader header front
   pub whole : bytes ≡ front ++ body
 
--- these bytes are the spelling of the unit: its header, and its body
-pub record SpellsUnit (unit : UnitParts) (bytes : List ℕ) : Type 0 where
-  pub valid : IsUnit unit
-  pub parts : IsHeaderAndBody bytes (unit_header unit) unit.body
+-- the values that a code has
+abbrev pub IsIscc : Iscc → Type 0
+IsIscc (codes.Unit unit) = IsUnit unit
+IsIscc (codes.Code code) = IsCode code
 
--- these bytes are the spelling of the code
-abbrev pub SpellsIscc : Iscc → List ℕ → Type 0
-SpellsIscc (codes.Unit unit) bytes = SpellsUnit unit bytes
+abbrev pub header_of : Iscc → Numbers
+header_of (codes.Unit unit) = unit_header unit
+header_of (codes.Code code) = code_header code
 
--- the first fault of a header and its body, in the order of the causes; a composite's MainType is above all of the units'
+abbrev pub body_of : Iscc → List ℕ
+body_of (codes.Unit unit) = unit.body
+body_of (codes.Code code) = code_body code
+
+-- these bytes are the spelling of the code: its header, and its body
+pub record SpellsIscc (iscc : Iscc) (bytes : List ℕ) : Type 0 where
+  pub valid : IsIscc iscc
+  pub parts : IsHeaderAndBody bytes (header_of iscc) (body_of iscc)
+
+-- the units of a code as units of 64 bits, each by its first bits; a unit of 32 bits has none
+abbrev pub units_of : Iscc → Option (List Unit64)
+units_of (codes.Unit unit) = if nat_lt (length unit.body) 8 then None else Some (first64_of unit ∷ [])
+units_of (codes.Code code) = Some (code_units code)
+
+-- a unit's or an ISCC-CODE's header may have this SubType
+unfoldable pub is_sub : ℕ → ℕ → ℕ → Bool
+is_sub main sub len = if main == 5 then is_code_sub len sub else is_kind main sub
+
+-- how many bytes a body has, by the MainType and the Length of its header
+unfoldable pub body_len : ℕ → ℕ → ℕ
+body_len main len = if main == 5 then 8 * unit_count len else 4 * (len + 1)
+
+-- the first fault of a header and its body, in the order of the causes
 unfoldable pub fault_of : Numbers → List ℕ → Option IsccFault
 fault_of header body =
-    if nat_lt 4 header.main then Some faults.MainType
+    if nat_lt 5 header.main then Some faults.MainType
     else if not (header.version == 0) then Some faults.Version
     else if nat_lt 7 header.len then Some faults.Length
-    else if not (is_kind header.main header.sub) then Some faults.SubType
-    else if nat_lt (length body) (4 * (header.len + 1)) then Some faults.Short
-    else if nat_lt (4 * (header.len + 1)) (length body) then Some faults.Long
+    else if not (is_sub header.main header.sub header.len) then Some faults.SubType
+    else if nat_lt (length body) (body_len header.main header.len) then Some faults.Short
+    else if nat_lt (body_len header.main header.len) (length body) then Some faults.Long
     else None
 
 -- a fault of what stands behind the header, or of its numbers
@@ -63,3 +87,15 @@ HasFault bytes fault = HasBodyFault bytes fault
 abbrev pub DecodesTo : List ℕ → Result Iscc IsccFault → Type 0
 DecodesTo bytes (Ok iscc) = SpellsIscc iscc bytes
 DecodesTo bytes (Err fault) = HasFault bytes fault
+
+-- the code has this header and this body
+pub record HasParts (header : Numbers) (body : List ℕ) (iscc : Iscc) : Type 0 where
+  pub valid : IsIscc iscc
+  pub its_header : header_of iscc ≡ header
+  pub its_body : body_of iscc ≡ body
+  pub faultless : fault_of header body ≡ None
+
+-- their first fault is this one
+pub record IsFirstFault (header : Numbers) (body : List ℕ) (fault : IsccFault) : Type 0 where
+  pub behind : IsBehindHeader fault
+  pub first : fault_of header body ≡ Some fault

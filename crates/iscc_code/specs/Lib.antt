@@ -3,4 +3,6 @@ pub use Rattle.iscc_header.specs.Kinds
 pub use Rattle.iscc_header.specs.Headers
 pub mod Units
 pub mod StoredUnits
+pub mod Composites
+pub mod Joined
 pub mod Codes

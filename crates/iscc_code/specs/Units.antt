@@ -1,9 +1,11 @@
 -- Units of every width: a kind and a body (ISO 24138:2024).
-use Rattle.std.specs.Prelude.{◌≡◌, ◌<◌, ◌≤◌, ◌-◌, ◌/◌, ◌%◌, ℕ, List, length, All, Bool, ◌==◌, ◌&&◌}
+use Rattle.std.specs.Prelude.{◌≡◌, ◌<◌, ◌≤◌, ◌-◌, ◌/◌, ◌%◌, ℕ, List, length, take, All, Bool, ◌==◌, ◌&&◌}
 use Rattle.std.specs.List.{list_any}
+use Rattle.std.specs.Int.{w64, from_be_bytes}
 use Rattle.iscc_header.specs.Bits.{IsByte}
 use Rattle.iscc_header.specs.Headers.{Numbers}
 use Rattle.iscc_header.specs.Kinds.{kinds, main_of, sub_of}
+use Rattle.iscc_header.specs.declared.unit.Unit64.{Unit64}
 
 -- what a contract sees of a unit: the number of its kind, and the bytes of its body
 pub record UnitParts : Type 0 where
@@ -29,3 +31,11 @@ unit_header unit = record { main = main_of unit.kind; sub = sub_of unit.kind; ve
 -- some kind has this MainType and this SubType
 unfoldable pub is_kind : ℕ → ℕ → Bool
 is_kind main sub = list_any (λ pair. (pair.0 == main) && (pair.1 == sub)) kinds
+
+-- the number of 64 bits that the first eight bytes of a body are, its first bit the highest
+unfoldable pub first_bits : List ℕ → ℕ
+first_bits body = from_be_bytes w64 (take 8 body)
+
+-- the unit of the first 64 bits
+abbrev pub first64_of : UnitParts → Unit64
+first64_of unit = record { kind = unit.kind; body = first_bits unit.body }

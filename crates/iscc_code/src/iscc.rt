@@ -1,20 +1,26 @@
 ghost use Rattle.std.specs.Prelude.{◌≡◌, ◌<◌, ◌≤◌, ◌+◌, ◌++◌, ◌↔◌, ℕ, List, length, true, false, IfOk, IfSome, IfNone, MatchResult};
 ghost use Rattle.arrayvec.specs.ArrayVec.{array_vec_len};
 ghost use Rattle.iscc_header.specs.Kinds.{main_of, sub_of};
-ghost use Rattle.iscc_header.specs.Headers.{Numbers};
+ghost use Rattle.iscc_header.specs.Headers.{SpellsHeader};
 ghost use Rattle.iscc_code.specs.declared.iscc.Iscc.{Iscc as AnIscc};
+ghost use Rattle.iscc_code.specs.declared.iscc.Iscc.TheVariants.{Unit as AUnit, Code as ACode};
 ghost use Rattle.iscc_code.specs.declared.iscc.IsccFault.{IsccFault as AFault};
-ghost use Rattle.iscc_code.specs.Units.{IsUnit, unit_header, is_kind};
-ghost use Rattle.iscc_code.specs.Codes.{SpellsIscc, SpellsUnit, HasFault, DecodesTo, IsBehindHeader, fault_of};
+ghost use Rattle.iscc_code.specs.Units.{is_kind};
+ghost use Rattle.iscc_code.specs.Codes.{SpellsIscc, HasFault, DecodesTo, HasParts, IsFirstFault};
 
+use crate::code::{Code, code_from, may_have_sub, units_in};
 use crate::unit::Unit;
 use arrayvec::ArrayVec;
 use iscc_header::{Header, HeaderFault, Kind, MainType, decode_header, encode_header};
 
-/// A whole ISCC. Until composites come it is a unit.
+// The MainType of an ISCC-CODE.
+const ISCC: u16 = 5;
+
+/// A whole ISCC: a unit, or an ISCC-CODE of several units.
 #[derive(Clone, Copy, Debug, PartialEq, Eq)]
 pub enum Iscc {
     Unit(Unit),
+    Code(Code),
 }
 
 /// Why bytes spell no ISCC, in the order of the causes.
@@ -22,13 +28,13 @@ pub enum Iscc {
 pub enum IsccFault {
     /// The bytes begin with no header.
     Header(HeaderFault),
-    /// The MainType is above 4.
+    /// The MainType is above 5.
     MainType,
     /// The version isn't 0.
     Version,
     /// The length is above 7.
     Length,
-    /// No kind has this SubType.
+    /// No kind, or no ISCC-CODE of this length, has this SubType.
     SubType,
     /// The body is shorter than its header says.
     Short,
@@ -42,29 +48,24 @@ pub fn decode(bytes: &[u8]) -> Result<Iscc, IsccFault>
     ensures complete { (iscc : AnIscc) → SpellsIscc iscc bytes.now → result ≡ Ok iscc }
     ensures fault { (fault : AFault) → (result ≡ Err fault) ↔ HasFault bytes.now fault }
 {
-    read_code(bytes)
+    read_bytes(bytes)
 }
 
-fn read_code(bytes: &[u8]) -> Result<Iscc, IsccFault>
+fn read_bytes(bytes: &[u8]) -> Result<Iscc, IsccFault>
     ensures { DecodesTo bytes.now result }
 {
     let (header, count) = match decode_header(bytes) {
         Ok(read) => read,
         Err(fault) => return Err(IsccFault::Header(fault)),
     };
-    match unit_of(&header, &bytes[count..]) {
-        Ok(unit) => Ok(Iscc::Unit(unit)),
-        Err(fault) => Err(fault),
-    }
+    iscc_of(&header, &bytes[count..])
 }
 
-// The unit with this header and this body, or the first fault of the two.
-fn unit_of(header: &Header, body: &[u8]) -> Result<Unit, IsccFault>
-    ensures { MatchResult result
-        (λ unit. (fault_of header.now body.now ≡ None) × IsUnit unit × (unit.body ≡ body.now) × (unit_header unit ≡ header.now))
-        (λ fault. (fault_of header.now body.now ≡ Some fault) × IsBehindHeader fault) }
+// The ISCC with this header and this body, or the first fault of the two.
+fn iscc_of(header: &Header, body: &[u8]) -> Result<Iscc, IsccFault>
+    ensures { MatchResult result (HasParts header.now body.now) (IsFirstFault header.now body.now) }
 {
-    if header.main() > 4 {
+    if header.main() > ISCC {
         return Err(IsccFault::MainType);
     }
     if header.version() != 0 {
@@ -73,6 +74,40 @@ fn unit_of(header: &Header, body: &[u8]) -> Result<Unit, IsccFault>
     if header.length() > 7 {
         return Err(IsccFault::Length);
     }
+    if header.main() == ISCC {
+        code_of(header, body)
+    } else {
+        unit_of(header, body)
+    }
+}
+
+// The ISCC-CODE with this header and this body, or the first fault of the two.
+fn code_of(header: &Header, body: &[u8]) -> Result<Iscc, IsccFault>
+    requires main { header.now.main ≡ 5 }
+    requires version { header.now.version ≡ 0 }
+    requires len { header.now.len ≤ 7 }
+    ensures { MatchResult result (HasParts header.now body.now) (IsFirstFault header.now body.now) }
+{
+    if !may_have_sub(header.length(), header.sub()) {
+        return Err(IsccFault::SubType);
+    }
+    let width = 8 * units_in(header.length());
+    if body.len() < width {
+        return Err(IsccFault::Short);
+    }
+    if body.len() > width {
+        return Err(IsccFault::Long);
+    }
+    Ok(Iscc::Code(code_from(header.length(), header.sub(), body)))
+}
+
+// The unit with this header and this body, or the first fault of the two.
+fn unit_of(header: &Header, body: &[u8]) -> Result<Iscc, IsccFault>
+    requires main { header.now.main ≤ 4 }
+    requires version { header.now.version ≡ 0 }
+    requires len { header.now.len ≤ 7 }
+    ensures { MatchResult result (HasParts header.now body.now) (IsFirstFault header.now body.now) }
+{
     let Some(kind) = kind_of(header) else {
         return Err(IsccFault::SubType);
     };
@@ -86,7 +121,7 @@ fn unit_of(header: &Header, body: &[u8]) -> Result<Unit, IsccFault>
     let Some(unit) = Unit::new(kind, body) else {
         unreachable!()
     };
-    Ok(unit)
+    Ok(Iscc::Unit(unit))
 }
 
 // The kind with the MainType and the SubType of a header.
@@ -104,31 +139,53 @@ fn kind_of(header: &Header) -> Option<Kind>
     Some(kind)
 }
 
-/// The bytes of an ISCC: its header, and its body.
+/// The bytes of an ISCC: its header, and its body. Takes no memory.
 pub fn encode(iscc: &Iscc) -> ArrayVec<u8, 42>
     ensures { SpellsIscc iscc.now result.items }
 {
     match iscc {
-        Iscc::Unit(unit) => bytes_of(unit),
+        Iscc::Unit(unit) => unit_bytes(unit),
+        Iscc::Code(code) => code_bytes(code),
     }
 }
 
-fn bytes_of(unit: &Unit) -> ArrayVec<u8, 42>
-    ensures { SpellsUnit unit.now result.items }
+fn unit_bytes(unit: &Unit) -> ArrayVec<u8, 42>
+    ensures { SpellsIscc (AUnit unit.now) result.items }
 {
     let body = unit.body();
     let kind = unit.kind();
-    let Some(header) = Header::new(
+    let mut bytes = header_bytes(
         kind.main().number(),
         kind.sub(),
-        0,
         (body.len() / 4 - 1) as u16,
-    ) else {
+    );
+    append(&mut bytes, body);
+    bytes
+}
+
+fn code_bytes(code: &Code) -> ArrayVec<u8, 42>
+    ensures { SpellsIscc (ACode code.now) result.items }
+{
+    let mut bytes = header_bytes(ISCC, code.sub(), code.header_len());
+    for unit in code.split().as_slice() {
+        append(&mut bytes, &unit.body.to_be_bytes());
+    }
+    bytes
+}
+
+// The bytes of a header of four small numbers, with version 0.
+fn header_bytes(main: u16, sub: u16, len: u16) -> ArrayVec<u8, 42>
+    requires main { main < 8 }
+    requires sub { sub < 8 }
+    requires len { len < 8 }
+    ensures spelled { SpellsHeader (record { main = main; sub = sub; version = 0; len = len }) result.items }
+    ensures two { length result.items ≡ 2 }
+{
+    let Some(header) = Header::new(main, sub, 0, len) else {
         unreachable!()
     };
     let mut bytes = ArrayVec::new();
     append(&mut bytes, encode_header(&header).as_slice());
-    append(&mut bytes, body);
     bytes
 }
 

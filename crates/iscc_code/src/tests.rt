@@ -52,8 +52,8 @@ fn the_first_fault_of_a_code_is_answered(rt: HostRuntime) {
             [0, 8, 1].as_slice(),
             IsccFault::Header(HeaderFault::Padding),
         ),
-        // MainType 5, with a version and a length that can't be either.
-        ([0x57, 0x18, 0].as_slice(), IsccFault::MainType),
+        // MainType 6, with a version and a length that can't be either.
+        ([0x67, 0x18, 0].as_slice(), IsccFault::MainType),
         ([0x80, 0x00, 0x00].as_slice(), IsccFault::MainType),
         // Version 1, with SubType 7 and length 8.
         ([0x07, 0x18, 0x00].as_slice(), IsccFault::Version),
@@ -67,8 +67,95 @@ fn the_first_fault_of_a_code_is_answered(rt: HostRuntime) {
         ([0x00, 0x00, 1, 2, 3].as_slice(), IsccFault::Short),
         ([0x00, 0x00, 1, 2, 3, 4, 5].as_slice(), IsccFault::Long),
         ([0x00, 0x00].as_slice(), IsccFault::Short),
+        // An ISCC-CODE: SUM with META, NONE without, MIXED with neither SEMANTIC nor CONTENT, SUM with CONTENT.
+        ([0x55, 0x04].as_slice(), IsccFault::SubType),
+        ([0x56, 0x00].as_slice(), IsccFault::SubType),
+        ([0x54, 0x00].as_slice(), IsccFault::SubType),
+        ([0x55, 0x01].as_slice(), IsccFault::SubType),
+        ([0x54, 0x01, 1, 2, 3].as_slice(), IsccFault::Short),
+        (
+            [
+                0x55, 0x00, 0, 0, 0, 0, 0, 0, 0, 0, 0, 0, 0, 0, 0, 0, 0, 0, 0,
+            ]
+            .as_slice(),
+            IsccFault::Long,
+        ),
     ];
     for (bytes, fault) in cases {
         assert_eq!(rt; decode(bytes), Err(fault));
     }
+}
+
+// A unit of 64 bits whose body is one byte eight times.
+fn unit(main: MainType, sub: u16, byte: u8) -> Option<Unit> {
+    let kind = Kind::of(main, sub)?;
+    Unit::new(kind, &[byte; 8])
+}
+
+#[test]
+fn a_composite_has_its_units_by_rising_main_type(rt: HostRuntime) -> Result<(), Fail> {
+    let instance = unit(MainType::Instance, 0, 5).ok_or("no unit")?;
+    let content = unit(MainType::Content, 3, 3).ok_or("no unit")?;
+    let data = unit(MainType::Data, 0, 4).ok_or("no unit")?;
+    let semantic = unit(MainType::Semantic, 3, 2).ok_or("no unit")?;
+    let meta = unit(MainType::Meta, 0, 1).ok_or("no unit")?;
+    let Ok(code) = compose(&[instance, content, data, semantic, meta]) else {
+        return Err("refused".into());
+    };
+    assert_eq!(rt; code.sub(), 3);
+    let units = code.split();
+    assert_eq!(rt; units.len(), 5);
+    let sorted = [meta, semantic, content, data, instance];
+    for (i, whole) in sorted.iter().enumerate() {
+        assert_eq!(rt; Some(units.as_slice()[i]), whole.first64());
+    }
+    let bytes = encode(&Iscc::Code(code));
+    assert_eq!(rt; bytes.len(), 42);
+    assert_eq!(rt; &bytes.as_slice()[..3], [0x53, 0x07, 1].as_slice());
+    assert_eq!(rt; decode(bytes.as_slice()), Ok(Iscc::Code(code)));
+    Ok(())
+}
+
+#[test]
+fn data_and_instance_alone_have_the_sub_type_sum(rt: HostRuntime) -> Result<(), Fail> {
+    let data = unit(MainType::Data, 0, 0).ok_or("no unit")?;
+    let instance = unit(MainType::Instance, 0, 0).ok_or("no unit")?;
+    let Ok(code) = compose(&[instance, data]) else {
+        return Err("refused".into());
+    };
+    assert_eq!(rt; code.sub(), 5);
+    let bytes = [0x55, 0, 0, 0, 0, 0, 0, 0, 0, 0, 0, 0, 0, 0, 0, 0, 0, 0];
+    assert_eq!(rt; encode(&Iscc::Code(code)).as_slice(), bytes.as_slice());
+    let meta = unit(MainType::Meta, 0, 0).ok_or("no unit")?;
+    let Ok(with_meta) = compose(&[instance, data, meta]) else {
+        return Err("refused".into());
+    };
+    assert_eq!(rt; with_meta.sub(), 6);
+    Ok(())
+}
+
+#[test]
+fn the_first_fault_of_composing_is_answered(rt: HostRuntime) -> Result<(), Fail> {
+    let meta = unit(MainType::Meta, 0, 0).ok_or("no unit")?;
+    let semantic = unit(MainType::Semantic, 0, 0).ok_or("no unit")?;
+    let content = unit(MainType::Content, 1, 0).ok_or("no unit")?;
+    let data = unit(MainType::Data, 0, 0).ok_or("no unit")?;
+    let instance = unit(MainType::Instance, 0, 0).ok_or("no unit")?;
+    let kind = Kind::of(MainType::Data, 0).ok_or("no kind")?;
+    let narrow = Unit::new(kind, &[0; 4]).ok_or("no unit")?;
+    assert_eq!(rt; compose(&[meta, data]), Err(ComposeFault::NoInstance));
+    assert_eq!(rt; compose(&[data, data]), Err(ComposeFault::Twice));
+    assert_eq!(rt; compose(&[narrow, instance]), Err(ComposeFault::Narrow));
+    assert_eq!(rt;
+        compose(&[semantic, content, data, instance]),
+        Err(ComposeFault::SubTypes)
+    );
+    assert_eq!(rt; compose(&[instance]), Err(ComposeFault::NoData));
+    assert_eq!(rt; compose(&[]), Err(ComposeFault::NoData));
+    assert_eq!(rt;
+        compose(&[semantic, content, narrow, instance]),
+        Err(ComposeFault::Narrow)
+    );
+    assert_eq!(rt; compose(&[narrow]), Err(ComposeFault::NoInstance));
+    Ok(())
 }

@@ -1,6 +1,6 @@
 ghost use Rattle.std.specs.Prelude.{◌≡◌, ◌≢◌, ◌<◌, ◌≤◌, ◌+◌, ◌-◌, ◌*◌, ◌^◌, ◌++◌, ◌↔◌, ℕ, List, length, take, replicate, IsNone, IsSome, IfSome, IfNone};
 ghost use Rattle.iscc_header.specs.Bits.{bits_of, byte_bits};
-ghost use Rattle.iscc_code.specs.Units.{UnitParts, IsBodyLength, IsUnit};
+ghost use Rattle.iscc_code.specs.Units.{UnitParts, IsBodyLength, IsUnit, first64_of};
 
 use iscc_header::{Kind, Unit64};
 use std::marker::Model;
@@ -78,6 +78,7 @@ impl Unit {
     pub fn first64(&self) -> Option<Unit64>
         ensures found { IfSome result (λ short. (short.kind ≡ self.now.kind)
             × (bits_of 64 short.body ≡ take 64 (byte_bits self.now.body))) }
+        ensures value { IfSome result (λ short. short ≡ first64_of self.now) }
         ensures none { IsNone result ↔ (length self.now.body ≡ 4) }
     {
         if self.len < 8 {

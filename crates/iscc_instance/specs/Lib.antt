@@ -1,4 +1,5 @@
 pub use Rattle.blake3_core.specs.Tree
 pub mod Hasher
+pub mod Instances
 pub mod State
 pub mod Subtrees

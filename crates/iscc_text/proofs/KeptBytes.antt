@@ -1,9 +1,9 @@
 -- Bytes of which the first 43 tell what the rest can't change.
-use Rattle.std.proofs.Common.{◌≡◌, ℕ, ◌+◌, ◌*◌, ◌%◌, ◌≤◌, List, [], ◌∷◌, ◌++◌, length, length-append, take, drop, Bool, true, false, Option, Some, None, refl, sym, ◌∙◌, ap, append_assoc, arith, inl, inr, subst}
-use Rattle.std.specs.Prelude.{All, nat_lt, ◌==◌, not, if◌then◌else◌}
+use Rattle.std.proofs.Common.{◌≡◌, ℕ, ◌+◌, ◌*◌, ◌%◌, ◌<◌, ◌≤◌, List, [], ◌∷◌, ◌++◌, length, length-append, append-nil, take, drop, Some, refl, sym, ◌∙◌, ap, append_assoc, arith, inl, inr, subst}
+use Rattle.std.specs.Prelude.{All}
 use Rattle.std.specs.List.{flat_map}
-use Rattle.std.proofs.lemmas.Bool.{cases_lt, cases_eq, lt-ltb, le-ltb, ltb-true}
-use Rattle.std.proofs.lemmas.Option.{none-some}
+use Rattle.std.proofs.lemmas.Bool.{cases_lt, cases_eq, cases_Bool}
+use Rattle.std.proofs.lemmas.Option.{none-some, same_Some}
 use Rattle.std.proofs.lemmas.List.{take_all, length-take-le, take-append-drop, take-append-le}
 use Rattle.std.proofs.lemmas.List.Elements.{All-head, All-tail}
 use Rattle.iscc_header.specs.Bits.{byte_bits}
@@ -13,12 +13,13 @@ use Rattle.iscc_header.specs.declared.header.HeaderFault.TheVariants as header_f
 use Rattle.iscc_header.proofs.BitLists.{length-byte_bits, byte_bits-append}
 use Rattle.iscc_header.proofs.NumberSpellings.{length-number_bits}
 use Rattle.iscc_header.proofs.HeaderReading.{in_order, IsHeader-all, padded_even, padded_odd}
-use Rattle.iscc_code.specs.Units.{is_kind}
-use Rattle.iscc_code.specs.Codes.{SpellsIscc, HasHeaderFault, HasBodyFault, HasFault, fault_of}
+use Rattle.iscc_code.specs.Codes.{SpellsIscc, header_of, body_of, is_sub, body_len, HasHeaderFault, HasBodyFault, HasFault, fault_of}
 use Rattle.iscc_code.specs.declared.iscc.Iscc.{Iscc}
-use Rattle.iscc_code.specs.declared.iscc.Iscc.TheVariants as codes
 use Rattle.iscc_code.specs.declared.iscc.IsccFault.{IsccFault}
 use Rattle.iscc_code.specs.declared.iscc.IsccFault.TheVariants as faults
+use Rattle.iscc_code.proofs.CodeBodies.{code_sub-small}
+use Rattle.iscc_code.proofs.CodeFaults.{IsCodeHeader, main_fault, version_fault, length_fault, sub_fault, long_fault, composite_sub, composite_body_len, unit_body_len, no_fault_in}
+use Rattle.iscc_code.proofs.ShortHeaders.{length-short_header}
 
 -- numbers have up to 16 bits each, by fours
 length_numbers : (ns : List ℕ) → All IsSpellable ns → (k : ℕ) × (length (flat_map number_bits ns) ≡ 4 * k) × (k ≤ 4 * length ns)
@@ -39,62 +40,71 @@ length_header h front s =
       | inr odd ↦ omega (arith, whole, ap length (padded_odd bits odd), length-append bits (0 ∷ 0 ∷ 0 ∷ 0 ∷ []), most.1, most.2)
     ]
 
--- a cause by its tests, with those on the body's length last
-pick : Bool → Bool → Bool → Bool → Bool → Bool → Option IsccFault
-pick main version len sub short long =
-    if main then Some faults.MainType
-    else if version then Some faults.Version
-    else if len then Some faults.Length
-    else if sub then Some faults.SubType
-    else if short then Some faults.Short
-    else if long then Some faults.Long
-    else None
+-- the header of an ISCC-CODE has two bytes
+code_header_bytes : (h : Numbers) (front : List ℕ) → SpellsHeader h front → IsCodeHeader h → h.main ≡ 5 → length front ≡ 2
+code_header_bytes h front s is five =
+    let small = code_sub-small h.len h.sub (sym (composite_sub h.main h.sub h.len five) ∙ is.sub) in
+    length-short_header h front s (record { main = omega arith; sub = omega arith; version = omega (arith, is.version); len = omega (arith, is.len) })
 
--- a body that isn't short, and longer if it was too long
-pick_longer : (main version len sub long longer : Bool) (fault : IsccFault) → (long ≡ true → longer ≡ true) → pick main version len sub false long ≡ Some fault → pick main version len sub false longer ≡ Some fault
-unfolding pick
-pick_longer true version len sub long longer fault more e = e
-pick_longer false true len sub long longer fault more e = e
-pick_longer false false true sub long longer fault more e = e
-pick_longer false false false true long longer fault more e = e
-pick_longer false false false false true longer fault more e = rw (more refl) e
-pick_longer false false false false false longer fault more e = absurd (none-some fault e)
-
--- a header that is at fault by itself
-pick_header : (main version sub short long short' long' : Bool) (fault : IsccFault) → pick main version true sub short long ≡ Some fault → pick main version true sub short' long' ≡ Some fault
-unfolding pick
-pick_header true version sub short long short' long' fault e = e
-pick_header false true sub short long short' long' fault e = e
-pick_header false false sub short long short' long' fault e = e
-
-same_fault_longer : (h : Numbers) (x y : List ℕ) (fault : IsccFault) → 32 ≤ length x → length x ≤ length y → fault_of h x ≡ Some fault → fault_of h y ≡ Some fault
-unfolding fault_of pick
-same_fault_longer h x y fault long longer e =
-    let main = nat_lt 4 h.main in
-    let version = not (h.version == 0) in
-    let sub = not (is_kind h.main h.sub) in
-    let most = 4 * (h.len + 1) in
-    let of : List ℕ → Bool → Option IsccFault = λ body len. pick main version len sub (nat_lt (length body) most) (nat_lt most (length body)) in
-    elim (cases_lt 7 h.len) [
-      | inl wide ↦
-          (let test : nat_lt 7 h.len ≡ true = lt-ltb 7 h.len wide in
-          let here : of x true ≡ Some fault = ap (of x) (sym test) ∙ e in
-          ap (of y) test ∙ pick_header main version sub (nat_lt (length x) most) (nat_lt most (length x)) (nat_lt (length y) most) (nat_lt most (length y)) fault here)
-      | inr narrow ↦
-          (let test : nat_lt 7 h.len ≡ false = le-ltb 7 h.len narrow in
-          let short_x : nat_lt (length x) most ≡ false = le-ltb (length x) most (omega arith) in
-          let short_y : nat_lt (length y) most ≡ false = le-ltb (length y) most (omega arith) in
-          let here : pick main version (nat_lt 7 h.len) sub false (nat_lt most (length x)) ≡ Some fault =
-          ap (λ s. pick main version (nat_lt 7 h.len) sub s (nat_lt most (length x))) (sym short_x) ∙ e in
-          ap (λ s. pick main version (nat_lt 7 h.len) sub s (nat_lt most (length y))) short_y
-          ∙ pick_longer main version (nat_lt 7 h.len) sub (nat_lt most (length x)) (nat_lt most (length y)) fault
-          (λ l. lt-ltb most (length y) (omega (arith, ltb-true most (length x) l))) here)
+-- what stands behind a header in more than 42 bytes is too long
+too_long : (h : Numbers) (front x : List ℕ) → SpellsHeader h front → 43 ≤ length front + length x → IsCodeHeader h → body_len h.main h.len < length x
+too_long h front x s long is =
+    elim (cases_eq h.main 5) [
+      | inl five ↦ omega (arith, long, code_header_bytes h front s is five, composite_body_len h.main h.len five, is.len)
+      | inr other ↦
+          (let unit : h.main ≤ 4 = omega (arith, is.main, other) in
+          omega (arith, long, length_header h front s, unit_body_len h.main h.len unit, is.len))
     ]
+
+-- the fault of a header and a body of more than 42 bytes, whatever stands behind them
+abbrev LastingFault : Numbers → List ℕ → Type 0
+LastingFault h x = (fault : IsccFault) × ((more : List ℕ) → fault_of h (x ++ more) ≡ Some fault)
+
+long_fault_of : (h : Numbers) (front x : List ℕ) → SpellsHeader h front → 43 ≤ length front + length x → IsCodeHeader h → LastingFault h x
+long_fault_of h front x s long is = (
+  faults.Long,
+  λ more. long_fault h (x ++ more) is (omega (arith, too_long h front x s long is, length-append x more)),
+)
+
+sub_fault_of : (h : Numbers) (front x : List ℕ) → SpellsHeader h front → 43 ≤ length front + length x → h.main ≤ 5 → h.version ≡ 0 → h.len ≤ 7 → LastingFault h x
+sub_fault_of h front x s long m v l =
+    elim (cases_Bool (is_sub h.main h.sub h.len)) [
+      | inl is ↦ long_fault_of h front x s long (record { main = m; version = v; len = l; sub = is })
+      | inr not ↦ (faults.SubType, λ more. sub_fault h (x ++ more) m v l not)
+    ]
+
+length_fault_of : (h : Numbers) (front x : List ℕ) → SpellsHeader h front → 43 ≤ length front + length x → h.main ≤ 5 → h.version ≡ 0 → LastingFault h x
+length_fault_of h front x s long m v =
+    elim (cases_lt 7 h.len) [
+      | inl wide ↦ (faults.Length, λ more. length_fault h (x ++ more) m v wide)
+      | inr l ↦ sub_fault_of h front x s long m v l
+    ]
+
+version_fault_of : (h : Numbers) (front x : List ℕ) → SpellsHeader h front → 43 ≤ length front + length x → h.main ≤ 5 → LastingFault h x
+version_fault_of h front x s long m =
+    elim (cases_eq h.version 0) [
+      | inl v ↦ length_fault_of h front x s long m v
+      | inr other ↦ (faults.Version, λ more. version_fault h (x ++ more) m other)
+    ]
+
+lasting_fault : (h : Numbers) (front x : List ℕ) → SpellsHeader h front → 43 ≤ length front + length x → LastingFault h x
+lasting_fault h front x s long =
+    elim (cases_lt 5 h.main) [
+      | inl above ↦ (faults.MainType, λ more. main_fault h (x ++ more) above)
+      | inr m ↦ version_fault_of h front x s long m
+    ]
+
+-- that fault is the first one of the body alone
+alone : (h : Numbers) (x : List ℕ) (found : LastingFault h x) → fault_of h x ≡ Some found.0
+alone h x found = ap (fault_of h) (sym (append-nil x)) ∙ found.1 []
 
 -- no code has as many bytes
 cut_code : (iscc : Iscc) (kept : List ℕ) → length kept ≡ 43 → SpellsIscc iscc kept → ⊥
-cut_code (codes.Unit u) kept len s =
-    omega (arith, len, ap length s.parts.whole, length-append s.parts.front u.body, length_header _ s.parts.front s.parts.spelled, s.valid.len.most)
+cut_code iscc kept len s =
+    let h = header_of iscc in
+    let x = body_of iscc in
+    let found = lasting_fault h s.parts.front x s.parts.spelled (omega (arith, len, ap length s.parts.whole, length-append s.parts.front x)) in
+    none-some found.0 (sym (no_fault_in iscc s.valid) ∙ alone h x found)
 
 longer_numbers : (bytes kept more ns rest : List ℕ) → bytes ≡ kept ++ more → BeginsWithNumbers (byte_bits kept) ns rest → BeginsWithNumbers (byte_bits bytes) ns (rest ++ byte_bits more)
 longer_numbers bytes kept more ns rest e b = record {
@@ -130,12 +140,13 @@ cut_header bytes kept more header_faults.Padding e len h =
 cut_body : (bytes kept more : List ℕ) (fault : IsccFault) → bytes ≡ kept ++ more → length kept ≡ 43 → HasBodyFault kept fault → HasBodyFault bytes fault
 cut_body bytes kept more fault e len h =
     let front = h.parts.front in
-    let long : 32 ≤ length h.body = omega (arith, len, ap length h.parts.whole, length-append front h.body, length_header h.header front h.parts.spelled) in
+    let found = lasting_fault h.header front h.body h.parts.spelled (omega (arith, len, ap length h.parts.whole, length-append front h.body)) in
+    let same : found.0 ≡ fault = same_Some found.0 fault (sym (alone h.header h.body found) ∙ h.first) in
     record {
       header = h.header;
       body = h.body ++ more;
       parts = record { front = front; spelled = h.parts.spelled; whole = e ∙ ap (λ t. t ++ more) h.parts.whole ∙ append_assoc front h.body more };
-      first = same_fault_longer h.header h.body (h.body ++ more) fault long (omega (arith, length-append h.body more)) h.first;
+      first = found.1 more ∙ ap Some same;
     }
 
 cut_fault : (bytes kept more : List ℕ) (fault : IsccFault) → bytes ≡ kept ++ more → length kept ≡ 43 → HasFault kept fault → HasFault bytes fault

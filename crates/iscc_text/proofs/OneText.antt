@@ -7,21 +7,14 @@ use Rattle.std.proofs.lemmas.List.Elements.{All-append, All-nil}
 use Rattle.iscc_header.specs.Bits.{byte_bits, IsByte}
 use Rattle.iscc_code.specs.Codes.{SpellsIscc, HasFault}
 use Rattle.iscc_code.specs.declared.iscc.Iscc.{Iscc}
-use Rattle.iscc_code.specs.declared.iscc.Iscc.TheVariants as codes
 use Rattle.iscc_code.specs.declared.iscc.IsccFault.{IsccFault}
 use Rattle.iscc_code.proofs.OneCode.{same_code, one_answer}
 use Rattle.iscc_text.specs.Texts.{is_blank, is_allowed, is_no_colon, capitals, IsScheme, AreLetters, StandsFor, LacksScheme, IsBehindScheme, LettersMean, ReadsText}
 use Rattle.iscc_text.specs.declared.read.TextFault.{TextFault}
 use Rattle.iscc_text.specs.declared.read.TextFault.TheVariants as faults
+use Rattle.iscc_text.proofs.SpelledBytes.{spelled_bytes}
 use Rattle.iscc_text.proofs.TextBits.{same_letter_bytes}
 use Rattle.iscc_text.proofs.TextParts.{trimmed_core, allowed_no_colon, allowed_no_blank, scheme_letters, one_place, lacking_or_behind, one_other, other_or_allowed}
-
--- a spelling is bytes, and not few
-spelled_bytes : (iscc : Iscc) (s : List ℕ) → SpellsIscc iscc s → All IsByte s × (4 ≤ length s)
-spelled_bytes (codes.Unit u) s h =
-    let joined = All-append IsByte h.parts.front u.body h.parts.spelled.range h.valid.bytes in
-    let P : List ℕ → Type 0 = λ t. All IsByte t in
-    (subst P (sym h.parts.whole) joined, omega (arith, ap length h.parts.whole, length-append h.parts.front u.body, h.valid.len.least))
 
 no_letters : AreLetters [] []
 unfolding capitals byte_bits

@@ -45,6 +45,9 @@ fn only_the_printed_text_is_read(rt: HostRuntime) {
     }
 }
 
+// The ISCC-CODE of a DATA and an INSTANCE unit with zero bodies.
+const TWO_UNITS: &str = "ISCC:KUAAAAAAAAAAAAAAAAAAAAAAAAAAA";
+
 fn unit(number: u8, body: &[u8]) -> Result<Iscc, Fail> {
     let kind = Kind::new(number).ok_or("no kind")?;
     Ok(Iscc::Unit(Unit::new(kind, body).ok_or("no unit")?))
@@ -64,6 +67,42 @@ fn a_lenient_text_is_read_as_the_printed_one(rt: HostRuntime) -> Result<(), Fail
         assert_eq!(rt; read_iscc(text.as_bytes()), Ok(meta), "{text}");
     }
     assert_eq!(rt; print_iscc(&meta).as_str(), "ISCC:AAAQAAAAAAAAAAAA");
+    Ok(())
+}
+
+#[test]
+fn a_lenient_text_of_an_iscc_code_is_read_as_the_printed_one(rt: HostRuntime) -> Result<(), Fail> {
+    let code = read_iscc(TWO_UNITS.as_bytes())?;
+    assert_eq!(rt; print_iscc(&code).as_str(), TWO_UNITS);
+    let texts = [
+        "KUAAAAAAAAAAAAAAAAAAAAAAAAAAA",
+        " iscc:kua-aaaaaaaa-aaaaaaaa-aaaaaaaaaa\t",
+        "\tIsCc:Kua-AAaa-aaaa-aaaa-aaaa-aaaa-aaaa-AA ",
+    ];
+    for text in texts {
+        assert_eq!(rt; read_iscc(text.as_bytes()), Ok(code), "{text}");
+    }
+    Ok(())
+}
+
+#[test]
+fn an_iscc_code_has_the_units_that_it_was_made_of(rt: HostRuntime) -> Result<(), Fail> {
+    let text = "ISCC:KACQAAAAAAAAAAAAAAAAAAAAAAAAAAAAAAAAAAAAACXRGSNZ6X42DJQ";
+    let Iscc::Code(code) = read_iscc(text.as_bytes())? else {
+        return Err("no ISCC-CODE".into());
+    };
+    let units = code.split();
+    let texts = [
+        "ISCC:AAAQAAAAAAAAAAAA",
+        "ISCC:EAAQAAAAAAAAAAAA",
+        "ISCC:GAAQAAAAAAAAAAAA",
+        "ISCC:IAA26E2JXH27TING",
+    ];
+    assert_eq!(rt; units.len(), texts.len());
+    for (unit, text) in units.as_slice().iter().zip(texts) {
+        assert_eq!(rt; print_unit(unit).as_str(), text);
+    }
+    assert_eq!(rt; print_iscc(&Iscc::Code(code)).as_str(), text);
     Ok(())
 }
 
@@ -114,11 +153,18 @@ fn the_first_fault_of_a_text_is_answered(rt: HostRuntime) {
         ("AA", short),
         ("8", TextFault::Letter { at: 0 }),
         ("KUA", TextFault::Bits),
-        ("KUAAA", TextFault::Iscc(IsccFault::MainType)),
+        ("MAAAA", TextFault::Iscc(IsccFault::MainType)),
         ("AAIAA", TextFault::Iscc(IsccFault::Version)),
         ("AEAAA", TextFault::Iscc(IsccFault::SubType)),
         ("AAAQAAAAAAAAAAA", TextFault::Iscc(IsccFault::Short)),
         ("AAAQAAAAAAAAAAAAAA", TextFault::Iscc(IsccFault::Long)),
+        ("KUAAAAAAAAAAAAAAAAAAAAAAAAAAB", TextFault::Bits),
+        ("KAAAA", TextFault::Iscc(IsccFault::SubType)),
+        ("KUAAA", TextFault::Iscc(IsccFault::Short)),
+        (
+            "KUAAAAAAAAAAAAAAAAAAAAAAAAAAAAA",
+            TextFault::Iscc(IsccFault::Long),
+        ),
     ];
     for (text, fault) in cases {
         assert_eq!(rt; read_iscc(text.as_bytes()), Err(fault), "{text}");
@@ -146,6 +192,12 @@ fn an_explanation_has_its_members_in_the_order_of_their_keys(rt: HostRuntime) ->
         (
             "eaaaaaaaaa",
             "{\"bits\":32,\"body\":\"00000000\",\"main\":\"CONTENT\",\"sub\":\"TEXT\",\"text\":\"ISCC:EAAAAAAAAA\"}",
+        ),
+        (
+            TWO_UNITS,
+            "{\"main\":\"ISCC\",\"sub\":\"SUM\",\"text\":\"ISCC:KUAAAAAAAAAAAAAAAAAAAAAAAAAAA\",\"units\":[\
+            {\"bits\":64,\"body\":\"0000000000000000\",\"main\":\"DATA\",\"sub\":\"NONE\",\"text\":\"ISCC:GAAQAAAAAAAAAAAA\"},\
+            {\"bits\":64,\"body\":\"0000000000000000\",\"main\":\"INSTANCE\",\"sub\":\"NONE\",\"text\":\"ISCC:IAAQAAAAAAAAAAAA\"}]}",
         ),
     ];
     for (text, want) in cases {

@@ -4,10 +4,10 @@ use Rattle.iscc_code.proofs.OneCode.{one_answer}
 use Rattle.iscc_code.proofs.iscc.decode.Goals as goal
 
 pub returns-clause-complete : goal.returns-clause-complete
-returns-clause-complete c = λ iscc spelled. one_answer c.args.bytes.now c.read_code.result (Ok iscc) c.read_code.ensures spelled
+returns-clause-complete c = λ iscc spelled. one_answer c.args.bytes.now c.read_bytes.result (Ok iscc) c.read_bytes.ensures spelled
 
 pub returns-clause-fault : goal.returns-clause-fault
 returns-clause-fault c = λ fault. (
-  λ e. subst (DecodesTo c.args.bytes.now) e c.read_code.ensures,
-  λ has. one_answer c.args.bytes.now c.read_code.result (Err fault) c.read_code.ensures has,
+  λ e. subst (DecodesTo c.args.bytes.now) e c.read_bytes.ensures,
+  λ has. one_answer c.args.bytes.now c.read_bytes.result (Err fault) c.read_bytes.ensures has,
 )
