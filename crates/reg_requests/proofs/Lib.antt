@@ -1,0 +1,9 @@
+pub mod Texts
+pub mod WordLemmas
+pub mod HexDigits
+pub mod FirstLine
+pub mod OneReading
+pub mod TakenCodes
+pub mod LineBytes
+pub mod FileItems
+pub mod WorkedLines

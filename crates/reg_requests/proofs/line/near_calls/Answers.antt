@@ -1,0 +1,16 @@
+use Rattle.std.proofs.Common.{◌∙◌, map, ap, subst, sym}
+use Rattle.std.specs.Prelude.{All}
+use Rattle.std.proofs.lemmas.List.{take_all}
+use Rattle.std.proofs.lemmas.List.Elements.{All-map}
+use Rattle.iscc_header.specs.declared.unit.Unit64.{Unit64}
+use Rattle.reg_model.specs.declared.call.Call.{Call}
+use Rattle.reg_model.specs.declared.call.Call.TheVariants as calls
+use Rattle.reg_requests.specs.Requests.{IsRequest}
+use Rattle.reg_requests.proofs.line.near_calls.Goals as goal
+
+pub returns-clause-requests : goal.returns-clause-requests
+returns-clause-requests c =
+    let units = c.args.units.now in
+    let near : Unit64 → Call = λ unit. calls.Near unit c.args.radius in
+    let all = c.loop-unit.invariant ∙ ap (map near) (take_all c.loop-unit.unit-index units c.loop-unit-test.false) in
+    λ valid small. subst (All IsRequest) (sym all) (All-map IsRequest near units (λ k d low. (valid k d low, small)))

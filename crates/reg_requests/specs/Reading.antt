@@ -1,0 +1,19 @@
+-- What the parts of the reading tell each other.
+use Rattle.std.specs.Prelude.{◌≡◌, ◌≤◌, ℕ, List, ◌++◌, length, All}
+use Rattle.arrayvec.specs.ArrayVec.{ArrayVec}
+use Rattle.reg_model.specs.declared.call.Call.{Call}
+use Rattle.reg_requests.specs.declared.items.Line.{Line}
+use Rattle.reg_requests.specs.declared.items.Item.{Item}
+use Rattle.reg_requests.specs.Requests.{ReadsLine, IsRequest, items_of, calls_of}
+
+-- calls that a line may ask for, and no more than a code has units
+abbrev pub AreRequests : ArrayVec Call → Type 0
+AreRequests list = All IsRequest list.items × (length list.items ≤ 5)
+
+-- a line adds its items to a list
+pub record AddsLine (line : List ℕ) (old new : List Item) : Type 0 where
+  pub read : Line
+  pub reads : ReadsLine line read
+  pub items : new ≡ old ++ items_of read
+  pub requests : All IsRequest (calls_of (items_of read))
+  pub few : length (calls_of (items_of read)) ≤ length line
