@@ -1,6 +1,5 @@
--- From the text of a call back to the call, and from a file to its items.
+-- From the text of a call back to the call.
 use Rattle.std.proofs.Common.{◌≡◌, ℕ, ◌^◌, ◌<◌, List, [], ◌∷◌, ◌++◌, drop, refl, sym, ◌∙◌, ap, ap₂, lit<, arith, append_assoc}
-use Rattle.std.specs.List.{AllZip}
 use Rattle.std.specs.Fmt.{decimal}
 use Rattle.std.proofs.lemmas.Fmt.{decimal_injective}
 use Rattle.iscc_header.specs.declared.unit.Unit64.{Unit64}
@@ -9,11 +8,8 @@ use Rattle.iscc_text.specs.UnitText.{unit_text}
 use Rattle.iscc_text.proofs.OneUnit.{same_unit}
 use Rattle.reg_model.specs.declared.call.Call.{Call}
 use Rattle.reg_model.specs.declared.call.Call.TheVariants as calls
-use Rattle.reg_top.specs.declared.items.Item.{Item}
-use Rattle.reg_top.specs.declared.items.Item.TheVariants as items
-use Rattle.reg_top.specs.declared.items.BadLine.TheVariants as bad
-use Rattle.reg_top.specs.Lines.{call_text}
-use Rattle.reg_top.specs.Requests.{request_lines, IsRequest, IsItem, AreItems}
+use Rattle.reg_requests.specs.Lines.{call_text}
+use Rattle.reg_requests.specs.Requests.{IsRequest}
 use Rattle.reg_top.specs.Values.{IsCallValue}
 use Rattle.reg_top.proofs.WordsBack.{first, cut, decimal_free, unit_free}
 
@@ -55,29 +51,10 @@ call_then a b r s h k e = absurd (omega (arith, ap first e))
 pub same_call : (a b : Call) → IsCallValue a → IsCallValue b → call_text a ≡ call_text b → a ≡ b
 same_call a b h k e = let is = call_then a b [] [] h k (ap (λ t. t ++ 32 ∷ []) e) in is.0
 
--- ---- items
+-- ---- requests
 
 -- what may be asked for has values of the program's types
 pub requested : (call : Call) → IsRequest call → IsCallValue call
 requested (calls.Declare unit) h = h
 requested (calls.Near unit radius) h = (h.0, omega (arith, h.1))
 requested call h = absurd h
-
--- a line is one item
-same_item : (text : List ℕ) (a b : Item) → IsItem text a → IsItem text b → a ≡ b
-same_item text (items.Call a) (items.Call b) h k = ap (λ c. items.Call c) (same_call a b (requested a h.0) (requested b k.0) (sym h.1 ∙ k.1))
-same_item text (items.Call a) (items.Bad why) h k = absurd (k a h.0 h.1)
-same_item text (items.Bad why) (items.Call b) h k = absurd (h b k.0 k.1)
-same_item text (items.Bad bad.Line) (items.Bad bad.Line) h k = refl
-
-same_items : (lines : List (List ℕ)) (a b : List Item) → AllZip IsItem lines a → AllZip IsItem lines b → a ≡ b
-same_items [] [] [] h k = refl
-same_items [] [] (y ∷ b) h k = absurd k
-same_items [] (x ∷ a) b h k = absurd h
-same_items (text ∷ lines) [] b h k = absurd h
-same_items (text ∷ lines) (x ∷ a) [] h k = absurd k
-same_items (text ∷ lines) (x ∷ a) (y ∷ b) h k = ap₂ (λ z zs. z ∷ zs) (same_item text x y h.0 k.0) (same_items lines a b h.1 k.1)
-
--- a file has one list of items
-pub one_list : (file : List ℕ) (a b : List Item) → AreItems file a → AreItems file b → a ≡ b
-one_list file a b h k = same_items (request_lines file) a b h k

@@ -1,101 +1,66 @@
--- From how a run ends to the cause of each status.
-use Rattle.std.proofs.Common.{◌≡◌, ℕ, ◌<◌, false, List, [], ◌∷◌, ◌++◌, length, Option, Some, None, refl, sym, ◌∙◌, ap, subst, inl, inr, arith, lit<}
-use Rattle.std.specs.Prelude.{◌⊎◌, IfSome, IsSomeAnd, Contains, nat_le, slice_get, codes, is_ok, Ok, Err}
-use Rattle.std.proofs.lemmas.Bool.{true≢false}
+-- From how a command ends to the cause of each status.
+use Rattle.std.proofs.Common.{◌≡◌, ℕ, List, [], Option, Some, None, refl, sym, ◌∙◌, ap, subst, inl, inr, arith, lit<}
+use Rattle.std.specs.Prelude.{◌⊎◌, IfSome, Contains}
 use Rattle.std.proofs.lemmas.Option.{none-some, same_Some}
-use Rattle.iscc_code.specs.declared.iscc.Iscc.{Iscc}
-use Rattle.iscc_text.specs.declared.read.TextFault.{TextFault}
-use Rattle.iscc_text.specs.Texts.{StandsFor, HasTextFault}
-use Rattle.iscc_text.proofs.OneText.{one_reading}
+use Rattle.iscc_code.specs.Composites.{compose_fault}
 use Rattle.reg_model.proofs.RowSteps.{IfSome-weaker}
+use Rattle.reg_top.specs.declared.refusal.Refusal.{Refusal}
+use Rattle.reg_top.specs.declared.refusal.Refusal.TheVariants as refusals
 use Rattle.reg_top.specs.declared.shelf.FetchFault.{FetchFault}
 use Rattle.reg_top.specs.declared.shelf.FetchFault.TheVariants.{Missing, TooLong}
 use Rattle.reg_top.specs.declared.status.Status.{Status}
 use Rattle.reg_top.specs.declared.status.Status.TheVariants as status
 use Rattle.reg_top.specs.Faults.{Quiet, Rose}
-use Rattle.reg_top.specs.Lines.{line}
-use Rattle.reg_top.specs.Output.{WritesRun, WritesFront, WritesExplanation, ExplainsFront}
-use Rattle.reg_top.specs.FaultLines.{Tells, TellsStatus, status_text, text_why}
-use Rattle.reg_top.specs.Ends.{Ends, ExplainEnds, IsOutcome}
 use Rattle.reg_top.specs.Files.{Files}
-use Rattle.reg_top.specs.Words.{IsRunOf, IsExplainOf, IsForm, IsSideCommand, RoundPlan, plan_of, fetched_names}
-use Rattle.reg_top.specs.Words.Command.{Run, Explain}
-use Rattle.reg_top.specs.Statuses.{HasNoForm, Exactly, request_limit, refusal_then, first_refusal, StopsBy, IsStopStatus, status_number, statuses}
+use Rattle.reg_requests.specs.Lines.{line}
+use Rattle.reg_top.specs.CommandOutput.{IsOutput, Writes, WritesFront}
+use Rattle.reg_top.specs.Words.{Command, IsForm, fetched_names}
+use Rattle.reg_top.specs.Words.Command.{Run, Explain, Compose, Instance}
+use Rattle.reg_top.specs.Refusals.{Refuses, Accepts}
+use Rattle.reg_top.specs.Statuses.{HasNoForm, file_fault, StopsBy, IsStopStatus, status_number, statuses}
+use Rattle.reg_top.specs.FaultLines.{Tells, TellsStatus, status_text}
+use Rattle.reg_top.specs.Ends.{Ends, IsOutcome}
+use Rattle.reg_top.proofs.Forms.{one_form}
+use Rattle.reg_top.proofs.Compositions.{clash, read_or_refused, same_units}
 
--- ---- the words
+-- ---- what a command refuses
 
-abbrev second : List (List ℕ) → List ℕ
-second [] = []
-second (x ∷ []) = []
-second (x ∷ y ∷ words) = y
+-- it takes or refuses what it is given, and not both
+accepts_not : (command : Command) (why : Refusal) → Accepts command → Refuses command why → ⊥
+accepts_not (Explain text) (refusals.Text fault) takes refuses = clash text takes.0 fault takes.1 refuses
+accepts_not (Compose texts) (refusals.Word at why) takes refuses = read_or_refused texts takes.0 at why takes.1 refuses
+accepts_not (Compose texts) (refusals.Units fault) takes refuses =
+    none-some fault (sym takes.2 ∙ ap compose_fault (same_units texts takes.0 refuses.0 takes.1 refuses.1) ∙ refuses.2)
+accepts_not command why takes refuses = refuses
 
--- words of this form name one file
-pub same_name : (words : List (List ℕ)) (a b : List ℕ) → IsRunOf words a → IsRunOf words b → a ≡ b
-same_name words a b h k = ap second (sym h.words_are ∙ k.words_are)
+-- what has an output was accepted
+accepted : (command : Command) (files : Option Files) (output : List ℕ) → IsOutput command files output → Accepts command
+accepted (Run plan) files output is = tt
+accepted (Explain text) files output is = (is.iscc, is.read)
+accepted (Compose texts) files output is = let composed = is.composed in (composed.units, composed.read, composed.faultless)
+accepted (Instance name) files output is = tt
 
--- a plan that the words have is that of the one file
-plan_is : (words : List (List ℕ)) (name : List ℕ) (plan : List RoundPlan) → IsRunOf words name → IsForm words (Run plan) → plan_of name ≡ plan
-plan_is words name plan form planned = ap plan_of (same_name words name planned.0 form planned.1) ∙ sym planned.2
+no_name : (name : List ℕ) → Contains [] name → ⊥
+no_name name has = omega (arith, has.1)
 
-same_text : (words : List (List ℕ)) (a b : List ℕ) → IsExplainOf words a → IsExplainOf words b → a ≡ b
-same_text words a b h k = ap second (sym h.words_are ∙ k.words_are)
+-- no command that fetches files refuses what it is given
+fetches_not : (command : Command) (name : List ℕ) (why : Refusal) → Contains (fetched_names command) name → Refuses command why → ⊥
+fetches_not (Run plan) name why has refuses = refuses
+fetches_not (Explain text) name why has refuses = no_name name has
+fetches_not (Compose texts) name why has refuses = no_name name has
+fetches_not (Instance file) name why has refuses = refuses
 
-abbrev first_len : List (List ℕ) → ℕ
-first_len [] = 0
-first_len (x ∷ words) = length x
+stops_not : (command : Command) (map : Files) (fault : FetchFault) (why : Refusal) → file_fault map command ≡ Some fault → Refuses command why → ⊥
+stops_not (Run plan) map fault why stops refuses = refuses
+stops_not (Explain text) map fault why stops refuses = none-some fault stops
+stops_not (Compose texts) map fault why stops refuses = none-some fault stops
+stops_not (Instance file) map fault why stops refuses = refuses
 
--- the words of a run are no other command's
-pub not_both : (words : List (List ℕ)) (name text : List ℕ) → IsRunOf words name → IsExplainOf words text → ⊥
-not_both words name text h k = absurd (let same : 3 ≡ 7 = ap first_len (sym h.words_are ∙ k.words_are) in omega arith)
+-- ---- counts
 
-pub side_explain : (words : List (List ℕ)) (text : List ℕ) → IsExplainOf words text → IsSideCommand words
-side_explain words text h = ap (λ ws. slice_get ws 0) h.words_are
-
-some_len : (a b : List ℕ) → Some a ≡ Some b → length a ≡ length b
-some_len a b e = ap length (same_Some a b e)
-
-pub run_no_side : (words : List (List ℕ)) (name : List ℕ) → IsRunOf words name → IsSideCommand words → ⊥
-run_no_side words name h side =
-    absurd (let same : 3 ≡ 7 = some_len (codes "run") (codes "explain") (sym (ap (λ ws. slice_get ws 0) h.words_are) ∙ side) in omega arith)
-
-pub no_form : (words : List (List ℕ)) → ((name : List ℕ) → IsRunOf words name → ⊥) → ((text : List ℕ) → IsExplainOf words text → ⊥) → HasNoForm words
-no_form words none other (Run plan) form = none form.0 form.1
-no_form words none other (Explain text) form = other text form
-
--- the refusal of a run's files is that of its one file
-refusal_is : (words : List (List ℕ)) (name : List ℕ) (map : Files) (fault : FetchFault) → IsRunOf words name → StopsBy words map fault → first_refusal request_limit map (name ∷ []) ≡ Some fault
-refusal_is words name map fault form stops =
-    let planned = stops.1 in
-    subst (λ n. first_refusal request_limit map (n ∷ []) ≡ Some fault) (same_name words planned.0 name planned.1 form)
-    (subst (λ plan. first_refusal request_limit map (fetched_names plan) ≡ Some fault) planned.2 stops.2)
-
--- ---- the file
-
-missing_is : (name : List ℕ) (map : Files) → map name ≡ None → first_refusal request_limit map (name ∷ []) ≡ Some Missing
-missing_is name map none = ap (λ held. refusal_then request_limit held None) none
-
-long_is : (held : Option (List ℕ)) → IsSomeAnd held (λ bytes. request_limit < length bytes) → refusal_then request_limit held None ≡ Some TooLong
-long_is None long = absurd long
-long_is (Some bytes) long = let beyond : nat_le (length bytes) request_limit ≡ false = grind arith in rw beyond refl
-
--- a fetch that failed is seen by its count
+-- a fault is seen by its count
 not_quiet : (before now : ℕ) → Quiet before now → Rose before now → ⊥
 not_quiet before now quiet rose = omega (arith, quiet.0, quiet.1, rose)
-
--- where the file stops the run and no fetch failed, the run says so, or memory is wanting
-stopped : (name : List ℕ) (map : Files) (before now : ℕ) (taken after : Option (List ℕ)) (was faults : ℕ) (end : Status) (fault : FetchFault)
-    → Ends name (Some map) before now taken after was faults end → first_refusal request_limit map (name ∷ []) ≡ Some fault → Quiet before now
-    → ((end ≡ status.Missing) × (fault ≡ Missing)) ⊎ (((end ≡ status.TooLong) × (fault ≡ TooLong)) ⊎ (end ≡ status.Memory))
-stopped name map before now taken after was faults status.Done fault ends refused quiet = absurd (none-some fault (sym ends.0 ∙ refused))
-stopped name map before now taken after was faults status.Write fault ends refused quiet = absurd (none-some fault (sym ends.0 ∙ refused))
-stopped name map before now taken after was faults status.Words fault ends refused quiet = absurd ends.0
-stopped name map before now taken after was faults status.Missing fault ends refused quiet =
-    let stops = ends.0 in inl (refl, same_Some fault Missing (sym refused ∙ missing_is name map stops.1))
-stopped name map before now taken after was faults status.TooLong fault ends refused quiet =
-    let stops = ends.0 in inr (inl (refl, same_Some fault TooLong (sym refused ∙ long_is (map name) stops.1)))
-stopped name map before now taken after was faults status.Read fault ends refused quiet = absurd (not_quiet before now quiet ends.0)
-stopped name map before now taken after was faults status.Refused fault ends refused quiet = absurd ends.0
-stopped name map before now taken after was faults status.Memory fault ends refused quiet = inr (inr refl)
 
 -- ---- the statuses by their numbers
 
@@ -123,64 +88,12 @@ number-7 : (end : Status) → status_number end ≡ 7 → end ≡ status.TooLong
 number-7 status.TooLong e = refl
 number-7 end e = absurd (omega (arith, e))
 
-number-10 : (end : Status) → status_number end ≡ 10 → end ≡ status.Refused
-number-10 status.Refused e = refl
+number-10 : (end : Status) → status_number end ≡ 10 → (why : Refusal) × (end ≡ status.Refused why)
+number-10 (status.Refused why) e = (why, refl)
 number-10 end e = absurd (omega (arith, e))
 
--- ---- the clauses, for a run of one file that ends so
-
--- the status that tells a fault of a file
-abbrev number_of : FetchFault → ℕ
-number_of Missing = 3
-number_of TooLong = 7
-number_of fault = 0
-
-told : (words : List (List ℕ)) (name : List ℕ) (files : Option Files) (before now : ℕ) (taken after : Option (List ℕ)) (was faults : ℕ) (end : Status) (fault : FetchFault)
-    → IsRunOf words name → Ends name files before now taken after was faults end → Quiet before now
-    → IfSome files (λ map. StopsBy words map fault → (status_number end ≡ number_of fault) ⊎ (status_number end ≡ 6))
-told words name None before now taken after was faults end fault form ends quiet = tt
-told words name (Some map) before now taken after was faults end fault form ends quiet = λ stops.
-    elim (stopped name map before now taken after was faults end fault ends (refusal_is words name map fault form stops) quiet) [
-      | inl missing ↦ inl (ap status_number missing.0 ∙ sym (ap number_of missing.1))
-      | inr rest ↦ (elim rest [
-        | inl long ↦ inl (ap status_number long.0 ∙ sym (ap number_of long.1))
-        | inr memory ↦ inr (ap status_number memory)
-      ])
-    ]
-
--- a run whose file is there and in limit, and no fault
-served : (name : List ℕ) (map : Files) (before now : ℕ) (taken after : Option (List ℕ)) (was faults : ℕ) (end : Status)
-    → Ends name (Some map) before now taken after was faults end → first_refusal request_limit map (name ∷ []) ≡ None → Quiet before now → Quiet was faults
-    → (status_number end ≡ 0) ⊎ (status_number end ≡ 6)
-served name map before now taken after was faults status.Done ends there quiet calm = inl refl
-served name map before now taken after was faults status.Memory ends there quiet calm = inr refl
-served name map before now taken after was faults status.Write ends there quiet calm = absurd (not_quiet was faults calm ends.2)
-served name map before now taken after was faults status.Words ends there quiet calm = absurd ends.0
-served name map before now taken after was faults status.Refused ends there quiet calm = absurd ends.0
-served name map before now taken after was faults status.Missing ends there quiet calm = let stops = ends.0 in absurd (none-some Missing (sym there ∙ missing_is name map stops.1))
-served name map before now taken after was faults status.TooLong ends there quiet calm = let stops = ends.0 in absurd (none-some TooLong (sym there ∙ long_is (map name) stops.1))
-served name map before now taken after was faults status.Read ends there quiet calm = absurd (not_quiet before now quiet ends.0)
-
-all_served : (words : List (List ℕ)) (name : List ℕ) (files : Option Files) (before now : ℕ) (taken after : Option (List ℕ)) (was faults : ℕ) (end : Status)
-    → Ends name files before now taken after was faults end → Quiet before now → Quiet was faults
-    → IfSome files (λ map. first_refusal request_limit map (fetched_names (plan_of name)) ≡ None → (status_number end ≡ 0) ⊎ (status_number end ≡ 6))
-all_served words name None before now taken after was faults end ends quiet calm = tt
-all_served words name (Some map) before now taken after was faults end ends quiet calm = λ there. served name map before now taken after was faults end ends there quiet calm
-
--- a status that isn't 0 or 5 is told
-run_told : (words : List (List ℕ)) (name : List ℕ) (files : Option Files) (before now : ℕ) (taken after : Option (List ℕ)) (was faults : ℕ) (end : Status)
-    → IsRunOf words name → Ends name files before now taken after was faults end → (status_number end ≡ 0 → ⊥) → (status_number end ≡ 5 → ⊥) → TellsStatus words (status_number end) taken after was faults
-run_told words name files before now taken after was faults status.Done form ends not_0 not_5 = absurd (not_0 refl)
-run_told words name files before now taken after was faults status.Write form ends not_0 not_5 = absurd (not_5 refl)
-run_told words name files before now taken after was faults status.Words form ends not_0 not_5 = absurd ends.0
-run_told words name files before now taken after was faults status.Refused form ends not_0 not_5 = absurd ends.0
-run_told words name files before now taken after was faults status.Memory form ends not_0 not_5 = record { which = status.Memory; same = refl; text = line (status_text status.Memory []); is = refl; told = ends.1 }
-run_told words name files before now taken after was faults status.Missing form ends not_0 not_5 = record { which = status.Missing; same = refl; text = line (status_text status.Missing name); is = (plan_of name, name, (name, form, refl), (0, lit< tt, refl), refl); told = ends.1 }
-run_told words name files before now taken after was faults status.Read form ends not_0 not_5 = record { which = status.Read; same = refl; text = line (status_text status.Read name); is = (plan_of name, name, (name, form, refl), (0, lit< tt, refl), refl); told = ends.1 }
-run_told words name files before now taken after was faults status.TooLong form ends not_0 not_5 = record { which = status.TooLong; same = refl; text = line (status_text status.TooLong name); is = (plan_of name, name, (name, form, refl), (0, lit< tt, refl), refl); told = ends.1 }
-
 -- every status is one of those that there are
-pub known_status : (end : Status) → Contains statuses (status_number end)
+known_status : (end : Status) → Contains statuses (status_number end)
 known_status status.Done = (0, lit< tt, refl)
 known_status status.Words = (1, lit< tt, refl)
 known_status status.Missing = (2, lit< tt, refl)
@@ -188,176 +101,185 @@ known_status status.Read = (3, lit< tt, refl)
 known_status status.Write = (4, lit< tt, refl)
 known_status status.Memory = (5, lit< tt, refl)
 known_status status.TooLong = (6, lit< tt, refl)
-known_status status.Refused = (7, lit< tt, refl)
+known_status (status.Refused why) = (7, lit< tt, refl)
 
-module _ (words : List (List ℕ)) (name : List ℕ) (files : Option Files) (before now : ℕ) (taken after : Option (List ℕ)) (was faults : ℕ) (end : Status) where
+-- the status that tells a fault of a file
+abbrev number_of : FetchFault → ℕ
+number_of Missing = 3
+number_of TooLong = 7
+number_of fault = 0
+
+-- ---- the clauses by the status
+
+-- where a file stops the command and no fetch failed, the command says so, or memory is wanting
+stopped : (command : Command) (map : Files) (before now : ℕ) (taken after : Option (List ℕ)) (was faults : ℕ) (end : Status) (fault : FetchFault)
+    → Ends command (Some map) before now taken after was faults end → file_fault map command ≡ Some fault → Quiet before now
+    → (status_number end ≡ number_of fault) ⊎ (status_number end ≡ 6)
+stopped command map before now taken after was faults status.Done fault ends stops quiet = let fetched = ends.0 in absurd (none-some fault (sym fetched.0 ∙ stops))
+stopped command map before now taken after was faults status.Write fault ends stops quiet = let fetched = ends.0 in absurd (none-some fault (sym fetched.0 ∙ stops))
+stopped command map before now taken after was faults status.Words fault ends stops quiet = absurd ends.0
+stopped command map before now taken after was faults status.Missing fault ends stops quiet =
+    let why = ends.0 in inl (ap number_of (same_Some Missing fault (sym why.1 ∙ stops)))
+stopped command map before now taken after was faults status.TooLong fault ends stops quiet =
+    let why = ends.0 in inl (ap number_of (same_Some TooLong fault (sym why.1 ∙ stops)))
+stopped command map before now taken after was faults status.Read fault ends stops quiet = absurd (not_quiet before now quiet ends.0)
+stopped command map before now taken after was faults (status.Refused why) fault ends stops quiet = absurd (stops_not command map fault why stops ends.0)
+stopped command map before now taken after was faults status.Memory fault ends stops quiet = inr refl
+
+refused : (command : Command) (files : Option Files) (before now : ℕ) (taken after : Option (List ℕ)) (was faults : ℕ) (end : Status) (why : Refusal)
+    → Ends command files before now taken after was faults end → Refuses command why → (status_number end ≡ 10) ⊎ (status_number end ≡ 6)
+refused command files before now taken after was faults status.Done why ends refuses =
+    let writes : Writes command files taken after = ends.2 in absurd (accepts_not command why (accepted command files writes.0 writes.1) refuses)
+refused command files before now taken after was faults status.Write why ends refuses =
+    let writes : WritesFront command files taken after = ends.2 in absurd (accepts_not command why (accepted command files writes.0 writes.1) refuses)
+refused command files before now taken after was faults status.Words why ends refuses = absurd ends.0
+refused command files before now taken after was faults status.Missing why ends refuses = let told = ends.2 in absurd (fetches_not command told.0 why told.1 refuses)
+refused command files before now taken after was faults status.TooLong why ends refuses = let told = ends.2 in absurd (fetches_not command told.0 why told.1 refuses)
+refused command files before now taken after was faults status.Read why ends refuses = let told = ends.2 in absurd (fetches_not command told.0 why told.1 refuses)
+refused command files before now taken after was faults (status.Refused other) why ends refuses = inl refl
+refused command files before now taken after was faults status.Memory why ends refuses = inr refl
+
+-- files that are there and in limit, and no fault
+done : (command : Command) (map : Files) (before now : ℕ) (taken after : Option (List ℕ)) (was faults : ℕ) (end : Status)
+    → Ends command (Some map) before now taken after was faults end → Accepts command → file_fault map command ≡ None → Quiet before now → Quiet was faults
+    → (status_number end ≡ 0) ⊎ (status_number end ≡ 6)
+done command map before now taken after was faults status.Done ends takes there quiet calm = inl refl
+done command map before now taken after was faults status.Write ends takes there quiet calm = absurd (not_quiet was faults calm ends.1)
+done command map before now taken after was faults status.Words ends takes there quiet calm = absurd ends.0
+done command map before now taken after was faults status.Missing ends takes there quiet calm = let why = ends.0 in absurd (none-some Missing (sym there ∙ why.1))
+done command map before now taken after was faults status.TooLong ends takes there quiet calm = let why = ends.0 in absurd (none-some TooLong (sym there ∙ why.1))
+done command map before now taken after was faults status.Read ends takes there quiet calm = absurd (not_quiet before now quiet ends.0)
+done command map before now taken after was faults (status.Refused why) ends takes there quiet calm = absurd (accepts_not command why takes ends.0)
+done command map before now taken after was faults status.Memory ends takes there quiet calm = inr refl
+
+-- nothing is fetched, and the sink has no fault
+answered : (command : Command) (files : Option Files) (before now : ℕ) (taken after : Option (List ℕ)) (was faults : ℕ) (end : Status)
+    → Ends command files before now taken after was faults end → Accepts command → fetched_names command ≡ [] → Quiet was faults
+    → (status_number end ≡ 0) ⊎ (status_number end ≡ 6)
+answered command files before now taken after was faults status.Done ends takes none calm = inl refl
+answered command files before now taken after was faults status.Write ends takes none calm = absurd (not_quiet was faults calm ends.1)
+answered command files before now taken after was faults status.Words ends takes none calm = absurd ends.0
+answered command files before now taken after was faults status.Missing ends takes none calm =
+    let told = ends.2 in absurd (no_name told.0 (subst (λ names. Contains names told.0) none told.1))
+answered command files before now taken after was faults status.TooLong ends takes none calm =
+    let told = ends.2 in absurd (no_name told.0 (subst (λ names. Contains names told.0) none told.1))
+answered command files before now taken after was faults status.Read ends takes none calm =
+    let told = ends.2 in absurd (no_name told.0 (subst (λ names. Contains names told.0) none told.1))
+answered command files before now taken after was faults (status.Refused why) ends takes none calm = absurd (accepts_not command why takes ends.0)
+answered command files before now taken after was faults status.Memory ends takes none calm = inr refl
+
+-- a status that isn't 0 or 5 is told
+told : (words : List (List ℕ)) (command : Command) (files : Option Files) (before now : ℕ) (taken after : Option (List ℕ)) (was faults : ℕ) (end : Status)
+    → IsForm words command → Ends command files before now taken after was faults end → (status_number end ≡ 0 → ⊥) → (status_number end ≡ 5 → ⊥) → TellsStatus words (status_number end) taken after was faults
+told words command files before now taken after was faults status.Done form ends not_0 not_5 = absurd (not_0 refl)
+told words command files before now taken after was faults status.Write form ends not_0 not_5 = absurd (not_5 refl)
+told words command files before now taken after was faults status.Words form ends not_0 not_5 = absurd ends.0
+told words command files before now taken after was faults end form ends not_0 not_5 =
+    record { which = end; same = refl; text = ends.1; is = (command, form, ends.2); told = ends.3 }
+
+-- the shelf tells its files or not
+inside : {A B : Type 0} (P : A → B → Type 0) (T : B → Type 0) (o : Option A) → ((b : B) × IfSome o (λ a. P a b) × T b) → IfSome o (λ a. (b : B) × P a b × T b)
+inside P T None h = tt
+inside P T (Some a) h = h
+
+-- a file that stops the command is told, or memory is wanting
+stop_told : (words : List (List ℕ)) (command : Command) (files : Option Files) (before now : ℕ) (taken after : Option (List ℕ)) (was faults : ℕ) (end : Status) (fault : FetchFault)
+    → IsForm words command → Ends command files before now taken after was faults end → Quiet before now
+    → IfSome files (λ map. StopsBy words map fault → (status_number end ≡ number_of fault) ⊎ (status_number end ≡ 6))
+stop_told words command None before now taken after was faults end fault form ends quiet = tt
+stop_told words command (Some map) before now taken after was faults end fault form ends quiet = λ stops.
+    stopped command map before now taken after was faults end fault ends (subst (λ c. file_fault map c ≡ Some fault) (one_form words stops.0 command stops.1 form) stops.2) quiet
+
+all_done : (words : List (List ℕ)) (command : Command) (files : Option Files) (before now : ℕ) (taken after : Option (List ℕ)) (was faults : ℕ) (end : Status)
+    → Ends command files before now taken after was faults end → Accepts command → Quiet before now → Quiet was faults
+    → IfSome files (λ map. file_fault map command ≡ None → (status_number end ≡ 0) ⊎ (status_number end ≡ 6))
+all_done words command None before now taken after was faults end ends takes quiet calm = tt
+all_done words command (Some map) before now taken after was faults end ends takes quiet calm = λ there.
+    done command map before now taken after was faults end ends takes there quiet calm
+
+-- ---- all clauses
+
+module _ (words : List (List ℕ)) (command : Command) (files : Option Files) (before now : ℕ) (taken after : Option (List ℕ)) (was faults : ℕ) (end : Status) where
   abbrev EndsSo : Status → Type 0
-  EndsSo other = Ends name files before now taken after was faults other
+  EndsSo other = Ends command files before now taken after was faults other
 
-  pub words_exactly : IsRunOf words name → EndsSo end → Exactly (status_number end) 2 (HasNoForm words)
-  words_exactly form ends = record {
-    only = λ e. let so : EndsSo status.Words = subst EndsSo (number-2 end e) ends in absurd so.0;
-    where_it_holds = λ none. absurd (none (Run (plan_of name)) (name, form, refl));
+  stop_status : (number : ℕ) (fault : FetchFault) → number ≡ number_of fault
+      → IsForm words command → EndsSo end
+      → (status_number end ≡ number → (now ≡ before) × IfSome files (λ map. file_fault map command ≡ Some fault))
+      → IsStopStatus (status_number end) number words files fault before now
+  stop_status number fault is form ends why = record {
+    only = λ e. let stops = why e in IfSome-weaker _ _ (λ map stop. (command, form, stop)) files stops.1;
+    quiet = λ e below. let stops = why e in stops.0;
+    where_it_holds = λ quiet.
+        subst (λ n. IfSome files (λ map. StopsBy words map fault → (status_number end ≡ n) ⊎ (status_number end ≡ 6))) (sym is)
+        (stop_told words command files before now taken after was faults end fault form ends quiet);
   }
 
-  stops_by : (fault : FetchFault) (map : Files) → IsRunOf words name → first_refusal request_limit map (name ∷ []) ≡ Some fault → StopsBy words map fault
-  stops_by fault map form refused = (plan_of name, (name, form, refl), refused)
+  writes : (other : Command) → IsForm words command → EndsSo end → IsForm words other → status_number end ≡ 0 → Writes other files taken after
+  writes other form ends given e =
+      let so : EndsSo status.Done = subst EndsSo (number-0 end e) ends in
+      subst (λ c. Writes c files taken after) (one_form words command other form given) so.2
 
-  pub missing_exactly : IsRunOf words name → EndsSo end → IsStopStatus (status_number end) 3 words files Missing before now
-  missing_exactly form ends = record {
-    only = λ e.
-        let so : EndsSo status.Missing = subst EndsSo (number-3 end e) ends in
-        let stops = so.0 in
-        IfSome-weaker _ _ (λ map none. stops_by Missing map form (missing_is name map none)) files stops.1;
-    quiet = λ e below. let so : EndsSo status.Missing = subst EndsSo (number-3 end e) ends in let stops = so.0 in stops.0;
-    where_it_holds = told words name files before now taken after was faults end Missing form ends;
-  }
-
-  pub too_long_exactly : IsRunOf words name → EndsSo end → IsStopStatus (status_number end) 7 words files TooLong before now
-  too_long_exactly form ends = record {
-    only = λ e.
-        let so : EndsSo status.TooLong = subst EndsSo (number-7 end e) ends in
-        let stops = so.0 in
-        IfSome-weaker _ _ (λ map long. stops_by TooLong map form (long_is (map name) long)) files stops.1;
-    quiet = λ e below. let so : EndsSo status.TooLong = subst EndsSo (number-7 end e) ends in let stops = so.0 in stops.0;
-    where_it_holds = told words name files before now taken after was faults end TooLong form ends;
-  }
-
-  -- all of it
-  pub run_outcome : IsRunOf words name → EndsSo end → IsOutcome words files before now taken after was faults (status_number end)
-  run_outcome form ends = record {
-    run = λ plan planned e.
-        let so : EndsSo status.Done = subst EndsSo (number-0 end e) ends in
-        subst (λ p. WritesRun p files taken after) (plan_is words name plan form planned) so.3;
-    explain = λ text given e. absurd (not_both words name text form given);
-    words_exactly = words_exactly form ends;
-    missing = missing_exactly form ends;
-    too_long = too_long_exactly form ends;
+  pub outcome : IsForm words command → EndsSo end → IsOutcome words files before now taken after was faults (status_number end)
+  outcome form ends = record {
+    run = λ plan given e. inside _ _ files (writes (Run plan) form ends given e);
+    explain = λ text given e. writes (Explain text) form ends given e;
+    compose = λ texts given e. writes (Compose texts) form ends given e;
+    instance = λ name given e. inside _ _ files (writes (Instance name) form ends given e);
+    words_exactly = record {
+      only = λ e. let so : EndsSo status.Words = subst EndsSo (number-2 end e) ends in absurd so.0;
+      where_it_holds = λ none. absurd (none command form);
+    };
+    missing = stop_status 3 Missing refl form ends (λ e. let so : EndsSo status.Missing = subst EndsSo (number-3 end e) ends in so.0);
+    too_long = stop_status 7 TooLong refl form ends (λ e. let so : EndsSo status.TooLong = subst EndsSo (number-7 end e) ends in so.0);
     read = λ e. let so : EndsSo status.Read = subst EndsSo (number-4 end e) ends in so.0;
     refused = record {
-      only = λ e. let so : EndsSo status.Refused = subst EndsSo (number-10 end e) ends in absurd so.0;
-      where_it_holds = λ refused. absurd (not_both words name refused.0 form refused.2);
+      only = λ e.
+          let is = number-10 end e in
+          let so : EndsSo (status.Refused is.0) = subst EndsSo is.1 ends in
+          (command, is.0, form, so.0);
+      where_it_holds = λ given.
+          refused command files before now taken after was faults end given.1 ends
+          (subst (λ c. Refuses c given.1) (one_form words given.0 command given.2 form) given.3);
     };
-    write = λ e. let so : EndsSo status.Write = subst EndsSo (number-5 end e) ends in so.2;
+    write = λ e. let so : EndsSo status.Write = subst EndsSo (number-5 end e) ends in so.1;
     known = known_status end;
-    done = λ quiet calm plan planned.
-        subst (λ p. IfSome files (λ map. first_refusal request_limit map (fetched_names p) ≡ None → (status_number end ≡ 0) ⊎ (status_number end ≡ 6))) (plan_is words name plan form planned)
-        (all_served words name files before now taken after was faults end ends quiet calm);
-    explained = λ calm text iscc given stands. absurd (not_both words name text form given);
-    cut_short = λ plan planned e.
+    done = λ quiet calm other given takes.
+        let P : Command → Type 0 = λ c. Accepts c → IfSome files (λ map. file_fault map c ≡ None → (status_number end ≡ 0) ⊎ (status_number end ≡ 6)) in
+        subst P (one_form words command other form given)
+        (λ taken_so. all_done words command files before now taken after was faults end ends taken_so quiet calm) takes;
+    answered = λ calm other given takes none.
+        let P : Command → Type 0 = λ c. Accepts c → fetched_names c ≡ [] → (status_number end ≡ 0) ⊎ (status_number end ≡ 6) in
+        subst P (one_form words command other form given)
+        (λ taken_so unfetched. answered command files before now taken after was faults end ends taken_so unfetched calm) takes none;
+    cut_short = λ other given e.
         let so : EndsSo status.Write = subst EndsSo (number-5 end e) ends in
-        subst (λ p. WritesFront p files taken after) (plan_is words name plan form planned) so.3;
-    explain_cut = λ text given e. absurd (not_both words name text form given);
-    told = run_told words name files before now taken after was faults end form ends;
+        subst (λ c. WritesFront c files taken after) (one_form words command other form given) so.2;
+    told = told words command files before now taken after was faults end form ends;
   }
 
 -- ---- words of no form
 
-no_file : (words : List (List ℕ)) (files : Option Files) (fault : FetchFault) (P : Type 0) → ((name : List ℕ) → IsRunOf words name → ⊥) → IfSome files (λ map. StopsBy words map fault → P)
-no_file words None fault P none = tt
-no_file words (Some map) fault P none = λ stops. let planned = stops.1 in absurd (none planned.0 planned.1)
+no_stop : (words : List (List ℕ)) (files : Option Files) (fault : FetchFault) (P : Type 0) → HasNoForm words → IfSome files (λ map. StopsBy words map fault → P)
+no_stop words None fault P none = tt
+no_stop words (Some map) fault P none = λ stops. absurd (none stops.0 stops.1)
 
 pub no_outcome : (words : List (List ℕ)) (files : Option Files) (before now : ℕ) (taken after : Option (List ℕ)) (was faults : ℕ)
-    → HasNoForm words → Tells taken after was faults (line (codes "fault 2 words")) → IsOutcome words files before now taken after was faults 2
-no_outcome words files before now taken after was faults none tells =
-    let no_run : (name : List ℕ) → IsRunOf words name → ⊥ = λ name h. none (Run (plan_of name)) (name, h, refl) in
-    record {
-      run = λ plan planned e. absurd (none (Run plan) planned);
-      explain = λ text given e. absurd (none (Explain text) given);
-      words_exactly = record { only = λ e. none; where_it_holds = λ no. inl refl };
-      missing = record { only = λ e. absurd (omega (arith, e)); quiet = λ e. absurd (omega (arith, e)); where_it_holds = λ quiet. no_file words files Missing _ no_run };
-      too_long = record { only = λ e. absurd (omega (arith, e)); quiet = λ e. absurd (omega (arith, e)); where_it_holds = λ quiet. no_file words files TooLong _ no_run };
-      read = λ e. absurd (omega (arith, e));
-      refused = record { only = λ e. absurd (omega (arith, e)); where_it_holds = λ refused. absurd (none (Explain refused.0) refused.2) };
-      write = λ e. absurd (omega (arith, e));
-      known = (1, lit< tt, refl);
-      done = λ quiet calm plan planned. absurd (none (Run plan) planned);
-      explained = λ calm text iscc given stands. absurd (none (Explain text) given);
-      cut_short = λ plan planned e. absurd (none (Run plan) planned);
-      explain_cut = λ text given e. absurd (none (Explain text) given);
-      told = λ not_0 not_5. record { which = status.Words; same = refl; text = line (codes "fault 2 words"); is = refl; told = tells };
-    }
-
--- ---- an explanation
-
-clash : (text : List ℕ) (iscc : Iscc) (fault : TextFault) → StandsFor text iscc → HasTextFault text fault → ⊥
-clash text iscc fault stands h = true≢false (ap is_ok (one_reading text (Ok iscc) (Err fault) stands h))
-
-explain_refused : (text : List ℕ) (taken after : Option (List ℕ)) (was faults : ℕ) (end : Status) (fault : TextFault)
-    → ExplainEnds text taken after was faults end → HasTextFault text fault → (status_number end ≡ 10) ⊎ (status_number end ≡ 6)
-explain_refused text taken after was faults status.Refused fault ends h = inl refl
-explain_refused text taken after was faults status.Memory fault ends h = inr refl
-explain_refused text taken after was faults status.Done fault ends h = let writes = ends.1 in let is = writes.1 in absurd (clash text is.iscc fault is.read h)
-explain_refused text taken after was faults status.Write fault ends h = let writes = ends.1 in let is = writes.1 in absurd (clash text is.iscc fault is.read h)
-explain_refused text taken after was faults status.Words fault ends h = absurd ends
-explain_refused text taken after was faults status.Missing fault ends h = absurd ends
-explain_refused text taken after was faults status.Read fault ends h = absurd ends
-explain_refused text taken after was faults status.TooLong fault ends h = absurd ends
-
-explain_done : (text : List ℕ) (taken after : Option (List ℕ)) (was faults : ℕ) (end : Status) (iscc : Iscc)
-    → ExplainEnds text taken after was faults end → StandsFor text iscc → Quiet was faults → (status_number end ≡ 0) ⊎ (status_number end ≡ 6)
-explain_done text taken after was faults status.Done iscc ends stands calm = inl refl
-explain_done text taken after was faults status.Memory iscc ends stands calm = inr refl
-explain_done text taken after was faults status.Refused iscc ends stands calm = absurd (clash text iscc ends.0 stands ends.1)
-explain_done text taken after was faults status.Write iscc ends stands calm = absurd (not_quiet was faults calm ends.0)
-explain_done text taken after was faults status.Words iscc ends stands calm = absurd ends
-explain_done text taken after was faults status.Missing iscc ends stands calm = absurd ends
-explain_done text taken after was faults status.Read iscc ends stands calm = absurd ends
-explain_done text taken after was faults status.TooLong iscc ends stands calm = absurd ends
-
-explain_told : (words : List (List ℕ)) (text : List ℕ) (taken after : Option (List ℕ)) (was faults : ℕ) (end : Status)
-    → IsExplainOf words text → ExplainEnds text taken after was faults end → (status_number end ≡ 0 → ⊥) → (status_number end ≡ 5 → ⊥) → TellsStatus words (status_number end) taken after was faults
-explain_told words text taken after was faults status.Done form ends not_0 not_5 = absurd (not_0 refl)
-explain_told words text taken after was faults status.Write form ends not_0 not_5 = absurd (not_5 refl)
-explain_told words text taken after was faults status.Memory form ends not_0 not_5 = record { which = status.Memory; same = refl; text = line (status_text status.Memory []); is = refl; told = ends }
-explain_told words text taken after was faults status.Refused form ends not_0 not_5 =
-    record { which = status.Refused; same = refl; text = line (codes "fault 10 text " ++ text_why ends.0); is = (text, ends.0, form, ends.1, refl); told = ends.2 }
-explain_told words text taken after was faults status.Words form ends not_0 not_5 = absurd ends
-explain_told words text taken after was faults status.Missing form ends not_0 not_5 = absurd ends
-explain_told words text taken after was faults status.Read form ends not_0 not_5 = absurd ends
-explain_told words text taken after was faults status.TooLong form ends not_0 not_5 = absurd ends
-
-module _ (words : List (List ℕ)) (text : List ℕ) (files : Option Files) (before now : ℕ) (taken after : Option (List ℕ)) (was faults : ℕ) (end : Status) where
-  abbrev ExplainsSo : Status → Type 0
-  ExplainsSo other = ExplainEnds text taken after was faults other
-
-  pub explain_outcome : IsExplainOf words text → ExplainsSo end → IsOutcome words files before now taken after was faults (status_number end)
-  explain_outcome form ends =
-      let no_run : (name : List ℕ) → IsRunOf words name → ⊥ = λ name h. not_both words name text h form in
-      record {
-        run = λ plan planned e. absurd (no_run planned.0 planned.1);
-        explain = λ given g e.
-            let so : ExplainsSo status.Done = subst ExplainsSo (number-0 end e) ends in
-            subst (λ t. WritesExplanation t taken after) (same_text words text given form g) so.1;
-        words_exactly = record {
-          only = λ e. let so : ExplainsSo status.Words = subst ExplainsSo (number-2 end e) ends in absurd so;
-          where_it_holds = λ none. absurd (none (Explain text) form);
-        };
-        missing = record {
-          only = λ e. let so : ExplainsSo status.Missing = subst ExplainsSo (number-3 end e) ends in absurd so;
-          quiet = λ e. let so : ExplainsSo status.Missing = subst ExplainsSo (number-3 end e) ends in absurd so;
-          where_it_holds = λ quiet. no_file words files Missing _ no_run;
-        };
-        too_long = record {
-          only = λ e. let so : ExplainsSo status.TooLong = subst ExplainsSo (number-7 end e) ends in absurd so;
-          quiet = λ e. let so : ExplainsSo status.TooLong = subst ExplainsSo (number-7 end e) ends in absurd so;
-          where_it_holds = λ quiet. no_file words files TooLong _ no_run;
-        };
-        read = λ e. let so : ExplainsSo status.Read = subst ExplainsSo (number-4 end e) ends in absurd so;
-        refused = record {
-          only = λ e. let so : ExplainsSo status.Refused = subst ExplainsSo (number-10 end e) ends in (text, so.0, form, so.1);
-          where_it_holds = λ refused.
-              explain_refused text taken after was faults end refused.1 ends
-              (subst (λ t. HasTextFault t refused.1) (same_text words refused.0 text refused.2 form) refused.3);
-        };
-        write = λ e. let so : ExplainsSo status.Write = subst ExplainsSo (number-5 end e) ends in so.0;
-        known = known_status end;
-        done = λ quiet calm plan planned. absurd (no_run planned.0 planned.1);
-        explained = λ calm given iscc g stands.
-            explain_done text taken after was faults end iscc ends (subst (λ t. StandsFor t iscc) (same_text words given text g form) stands) calm;
-        cut_short = λ plan planned e. absurd (no_run planned.0 planned.1);
-        explain_cut = λ given g e.
-            let so : ExplainsSo status.Write = subst ExplainsSo (number-5 end e) ends in
-            subst (λ t. ExplainsFront t taken after) (same_text words text given form g) so.1;
-        told = explain_told words text taken after was faults end form ends;
-      }
+    → HasNoForm words → Tells taken after was faults (line (status_text status.Words [])) → IsOutcome words files before now taken after was faults 2
+no_outcome words files before now taken after was faults none tells = record {
+  run = λ plan given e. absurd (none (Run plan) given);
+  explain = λ text given e. absurd (none (Explain text) given);
+  compose = λ texts given e. absurd (none (Compose texts) given);
+  instance = λ name given e. absurd (none (Instance name) given);
+  words_exactly = record { only = λ e. none; where_it_holds = λ no. inl refl };
+  missing = record { only = λ e. absurd (omega (arith, e)); quiet = λ e. absurd (omega (arith, e)); where_it_holds = λ quiet. no_stop words files Missing _ none };
+  too_long = record { only = λ e. absurd (omega (arith, e)); quiet = λ e. absurd (omega (arith, e)); where_it_holds = λ quiet. no_stop words files TooLong _ none };
+  read = λ e. absurd (omega (arith, e));
+  refused = record { only = λ e. absurd (omega (arith, e)); where_it_holds = λ given. absurd (none given.0 given.2) };
+  write = λ e. absurd (omega (arith, e));
+  known = (1, lit< tt, refl);
+  done = λ quiet calm command given takes. absurd (none command given);
+  answered = λ calm command given takes unfetched. absurd (none command given);
+  cut_short = λ command given e. absurd (none command given);
+  told = λ not_0 not_5. record { which = status.Words; same = refl; text = line (status_text status.Words []); is = refl; told = tells };
+}

@@ -1,12 +1,14 @@
 pub mod WorkedOutput
 pub mod ServeSteps
-pub mod LineParts
-pub mod FirstLine
 pub mod RoundMarks
 pub mod Texts
 pub mod Writing
 pub mod RunValues
 pub mod OneRound
+pub mod Forms
+pub mod Endings
+pub mod Compositions
+pub mod NoFloats
 pub mod Causes
 pub mod WordsBack
 pub mod CallsBack

@@ -1,12 +1,12 @@
 -- A run of one round with one session, from the items of its file on.
-use Rattle.std.proofs.Common.{◌≡◌, ℕ, zero, suc, ◌+◌, ◌^◌, ◌<◌, ◌≤◌, true, false, not, cond, List, [], ◌∷◌, ◌++◌, map, length, take, get_or, Option, Some, None, unwrap_or, refl, sym, ◌∙◌, ap, subst, zero-add, append_assoc, append-nil, inl, inr, arith, lit≤}
-use Rattle.std.specs.Prelude.{◌⊎◌, ◌==◌, if◌then◌else◌, is_some, count_by, All, codes}
-use Rattle.std.specs.List.{AllZip, AllByRecursion, cons_option}
+use Rattle.std.proofs.Common.{◌≡◌, ℕ, zero, suc, ◌+◌, ◌^◌, ◌<◌, ◌≤◌, false, not, cond, List, [], ◌∷◌, ◌++◌, map, length, take, get_or, Option, Some, None, unwrap_or, refl, sym, ◌∙◌, ap, subst, zero-add, append-nil, inl, inr, arith, lit≤}
+use Rattle.std.specs.Prelude.{◌⊎◌, if◌then◌else◌, is_some, count_by, All, codes}
+use Rattle.std.specs.List.{AllByRecursion, cons_option}
 use Rattle.std.specs.Option.{option_to_list}
 use Rattle.std.specs.Fmt.{decimal}
 use Rattle.std.proofs.lemmas.List.{take_more, length-map}
-use Rattle.std.proofs.lemmas.List.Elements.{All-nil, All-cons, All-weaker, All-from_recursion, recursion_from_All, filter_map-append}
-use Rattle.std.proofs.lemmas.List.Sums.{sum_by-cons, length-filter, count_by-le-length}
+use Rattle.std.proofs.lemmas.List.Elements.{All-nil, All-cons, All-weaker, recursion_from_All, filter_map-append}
+use Rattle.std.proofs.lemmas.List.Sums.{sum_by-cons}
 use Rattle.iscc_header.specs.declared.unit.Unit64.{Unit64}
 use Rattle.reg_model.specs.declared.update.Update.{Update}
 use Rattle.reg_model.specs.declared.update.Update.TheVariants.{Decl}
@@ -20,12 +20,10 @@ use Rattle.reg_model.specs.Live.{declared_from, declared, is_withdrawn}
 use Rattle.reg_model.specs.Rows.{update_of, is_accepted, log_of, session_rows, IsLawful}
 use Rattle.reg_model.specs.Runs.{RoundRows, IsLawfulRound, nothing, next_opening}
 use Rattle.reg_model.proofs.LiveSteps.{filter_all}
-use Rattle.reg_top.specs.declared.items.Item.{Item}
-use Rattle.reg_top.specs.declared.items.Item.TheVariants as items
+use Rattle.reg_requests.specs.declared.items.Item.{Item}
 use Rattle.reg_top.specs.Files.{Files}
-use Rattle.iscc_text.specs.UnitText.{unit_text}
-use Rattle.reg_top.specs.Lines.{line, spaced, call_text}
-use Rattle.reg_top.specs.Requests.{lines_of, onto_first, request_lines, IsRequest, IsItem, AreItems, TakesCode, near_line, call_in, calls_of}
+use Rattle.reg_requests.specs.Lines.{line, spaced}
+use Rattle.reg_requests.specs.Requests.{IsRequest, AreItems, call_in, calls_of}
 use Rattle.reg_top.specs.History.{history_text}
 use Rattle.reg_top.specs.Words.{usual_limits, plan_of}
 use Rattle.reg_top.specs.Output.{item_lines, MakesCalls, IsRunOutput}
@@ -35,44 +33,15 @@ use Rattle.reg_top.proofs.RunValues.{round_values}
 
 -- ---- the calls of a file
 
+-- what is read from a file: its items, calls that may be asked for, and no more of them than bytes
+pub record AreRequests (file : List ℕ) (list : List Item) : Type 0 where
+  pub items : AreItems file list
+  pub requests : All IsRequest (calls_of list)
+  pub few : length (calls_of list) ≤ length file
+
 one_or_none : {X : Type 0} (o : Option X) → cons_option o [] ≡ option_to_list o
 one_or_none None = refl
 one_or_none (Some x) = refl
-
-lines_known : (lines : List (List ℕ)) (list : List Item) → AllZip IsItem lines list → AllByRecursion IsRequest (calls_of list)
-lines_known [] [] zip = tt
-lines_known [] (item ∷ list) zip = absurd zip
-lines_known (text ∷ lines) [] zip = absurd zip
-lines_known (text ∷ lines) (items.Call call ∷ list) zip = let item = zip.0 in (item.0, lines_known lines list zip.1)
-lines_known (text ∷ lines) (items.Bad why ∷ list) zip = lines_known lines list zip.1
-
--- each call is one that may be asked for
-pub requests_known : (file : List ℕ) (list : List Item) → AreItems file list → All IsRequest (calls_of list)
-requests_known file list are = All-from_recursion IsRequest (calls_of list) (lines_known (request_lines file) list are)
-
-calls_by_lines : (lines : List (List ℕ)) (list : List Item) → AllZip IsItem lines list → length (calls_of list) ≤ length lines
-calls_by_lines [] [] zip = lit≤ tt
-calls_by_lines [] (item ∷ list) zip = absurd zip
-calls_by_lines (text ∷ lines) [] zip = absurd zip
-calls_by_lines (text ∷ lines) (items.Call call ∷ list) zip = omega (arith, calls_by_lines lines list zip.1)
-calls_by_lines (text ∷ lines) (items.Bad why ∷ list) zip = omega (arith, calls_by_lines lines list zip.1)
-
-first_longer : (byte : ℕ) (lines : List (List ℕ)) (n : ℕ) → length lines ≤ n → length (onto_first byte lines) ≤ suc n
-first_longer byte [] n h = omega arith
-first_longer byte (text ∷ lines) n h = omega (arith, h)
-
-lines_by_bytes : (file : List ℕ) → length (lines_of file) ≤ length file
-lines_by_bytes [] = lit≤ tt
-lines_by_bytes (byte ∷ file) =
-    elim (byte == 10) as (λ b. length (if b then [] ∷ lines_of file else onto_first byte (lines_of file)) ≤ suc (length file)) [
-      | true ↦ omega (arith, lines_by_bytes file)
-      | false ↦ first_longer byte (lines_of file) (length file) (lines_by_bytes file)
-    ]
-
--- a file has no more calls than bytes
-pub few_calls : (file : List ℕ) (list : List Item) → AreItems file list → length (calls_of list) ≤ length file
-few_calls file list are =
-    omega (arith, calls_by_lines (request_lines file) list are, length-filter (λ text. not (length text == 0)) (lines_of file), count_by-le-length (λ text. not (length text == 0)) (lines_of file), lines_by_bytes file)
 
 -- the calls of one item more
 pub calls_more : (list : List Item) (i : ℕ) (item : Item) → i < length list → item ≡ get_or list i item → calls_of (take (i + 1) list) ≡ calls_of (take i list) ++ option_to_list (call_in item)
@@ -80,16 +49,6 @@ calls_more list i item within is =
     ap calls_of (take_more list i item within ∙ ap (λ x. take i list ++ x ∷ []) (sym is))
     ∙ filter_map-append call_in (take i list) (item ∷ [])
     ∙ ap (λ calls. calls_of (take i list) ++ calls) (one_or_none (call_in item))
-
--- how a line takes its code
-near_text : (unit : Unit64) (radius : ℕ) → near_line unit radius ≡ call_text (calls.Near unit radius)
-near_text unit radius = append_assoc (codes "near " ++ unit_text unit) (codes " ") (decimal radius)
-
-pub takes_code : (text : List ℕ) (item : Item) → IsItem text item → TakesCode text item
-takes_code text (items.Call (calls.Declare unit)) is = (is.0, is.1)
-takes_code text (items.Call (calls.Near unit radius)) is = let asked = is.0 in (asked.0, asked.1, is.1 ∙ sym (near_text unit radius))
-takes_code text (items.Bad why) is = λ unit h. (λ e. is (calls.Declare unit) h e, λ radius small e. is (calls.Near unit radius) (h, small) (e ∙ near_text unit radius))
-takes_code text (items.Call call) is = absurd is.0
 
 -- ---- the live declarations of a round in which nothing is withdrawn
 
@@ -145,12 +104,12 @@ round_lawful rows lawful = record {
 }
 
 -- the rows of a file that isn't too long have values of the program's types
-run_values : (file : List ℕ) (list : List Item) (rows : List Row) → length file < 2 ^ 32 → AreItems file list → map (λ (row : Row). row.call) rows ≡ calls_of list → IsLawful (usual_limits 1) nothing rows
+run_values : (file : List ℕ) (list : List Item) (rows : List Row) → length file < 2 ^ 32 → AreRequests file list → map (λ (row : Row). row.call) rows ≡ calls_of list → IsLawful (usual_limits 1) nothing rows
     → IsRunValue nothing (one_round rows ∷ [])
 run_values file list rows short are asked lawful =
-    let known : All IsRequest (map (λ (row : Row). row.call) rows) = subst (All IsRequest) (sym asked) (requests_known file list are) in
+    let known : All IsRequest (map (λ (row : Row). row.call) rows) = subst (All IsRequest) (sym asked) are.requests in
     let calls : All IsCallValue (map (λ (row : Row). row.call) rows) = All-weaker IsRequest IsCallValue requested (map (λ (row : Row). row.call) rows) known in
-    let few : length rows ≤ 2 ^ 32 = omega (arith, short, few_calls file list are, ap length asked, length-map rows (λ (row : Row). row.call)) in
+    let few : length rows ≤ 2 ^ 32 = omega (arith, short, are.few, ap length asked, length-map rows (λ (row : Row). row.call)) in
     record {
       carried = All-nil IsDeclaredValue;
       rows = All-cons (λ (round : RoundRows). All IsRowValue round.rows) (one_round rows) [] (round_values nothing (one_round rows) (round_lawful rows lawful) (All-nil IsDeclaredValue) calls few) (All-nil (λ (round : RoundRows). All IsRowValue round.rows));
@@ -158,13 +117,13 @@ run_values file list rows short are asked lawful =
 
 -- the lines of the one session, and the history
 pub run_output : (files : Files) (name file : List ℕ) (list : List Item) (rows : List Row) (output : List ℕ)
-    → files name ≡ Some file → length file < 2 ^ 32 → AreItems file list → map (λ (row : Row). row.call) rows ≡ calls_of list → session_rows 0 rows ≡ rows → IsLawful (usual_limits 1) nothing rows
+    → files name ≡ Some file → length file < 2 ^ 32 → AreRequests file list → map (λ (row : Row). row.call) rows ≡ calls_of list → session_rows 0 rows ≡ rows → IsLawful (usual_limits 1) nothing rows
     → output ≡ (line (spaced (codes "replies" ∷ decimal 0 ∷ decimal 0 ∷ [])) ++ item_lines list rows) ++ history_text nothing (record { limits = usual_limits 1; rows = rows } ∷ [])
     → IsRunOutput nothing (plan_of name) files output
 run_output files name file list rows output held short are asked alone lawful text = record {
   items = (list ∷ []) ∷ [];
   rounds = one_round rows ∷ [];
-  read = (((file, held, are), tt), tt);
+  read = (((file, held, are.items), tt), tt);
   sizes = refl;
   calls = (made list (usual_limits 1) rows asked alone, tt);
   lawful = record {

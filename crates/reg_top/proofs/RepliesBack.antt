@@ -12,7 +12,7 @@ use Rattle.reg_model.specs.declared.reply.Hit.{Hit}
 use Rattle.reg_model.specs.declared.reply.Reply.{Reply}
 use Rattle.reg_model.specs.declared.reply.Reply.TheVariants as replies
 use Rattle.reg_model.specs.declared.reply.FullCause.TheVariants.{Log, Entries}
-use Rattle.reg_top.specs.Lines.{spaced, hit_text, reply_text}
+use Rattle.reg_requests.specs.Lines.{spaced, hit_text, reply_text}
 use Rattle.reg_top.specs.Values.{IsHitValue, IsReplyValue}
 use Rattle.reg_top.proofs.WordsBack.{free, free-cons, free-append, first, cut, cut_piece, decimal_free, unit_free}
 

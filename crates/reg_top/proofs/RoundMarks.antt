@@ -6,7 +6,8 @@ use Rattle.std.specs.Str.Parse.{AllDigits}
 use Rattle.std.proofs.lemmas.Option.{same_Some}
 use Rattle.std.proofs.lemmas.Str.Parse.{digit_from_value}
 use Rattle.std.proofs.lemmas.Str.Pattern.{IsSplitOnceResult, split_after, split_parts}
-use Rattle.reg_top.specs.Words.{IsNumber, AreSizes}
+use Rattle.reg_top.specs.Words.{AreSizes}
+use Rattle.reg_requests.specs.Numbers.{IsNumber}
 
 no_colon : (ds : List ℕ) → AllDigits 10 ds → (i : ℕ) → i < length ds → get_or ds i 0 ≡ 58 → ⊥
 no_colon [] all i low e = absurd (omega arith)

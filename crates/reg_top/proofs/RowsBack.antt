@@ -10,7 +10,7 @@ use Rattle.reg_model.specs.declared.call.Call.{Call}
 use Rattle.reg_model.specs.declared.call.Call.TheVariants as calls
 use Rattle.reg_model.specs.declared.reply.Reply.{Reply}
 use Rattle.reg_model.specs.declared.reply.Row.{Row}
-use Rattle.reg_top.specs.Lines.{call_text, reply_text, kind_of}
+use Rattle.reg_requests.specs.Lines.{call_text, reply_text, kind_of}
 use Rattle.reg_top.specs.History.{row_line}
 use Rattle.reg_top.specs.Values.{IsCallValue, IsRowValue}
 use Rattle.reg_top.proofs.WordsBack.{free, free-cons, free-append, first, cut, cut_piece, decimal_free, first_digit, unit_free}

@@ -12,7 +12,7 @@ use Rattle.reg_model.specs.declared.update.Declared.{Declared}
 use Rattle.reg_model.specs.Limits.{Limits, IsInRange}
 use Rattle.reg_model.specs.Opening.{Opening}
 use Rattle.reg_model.specs.Runs.{RoundRows, IsLawfulRound, IsLawfulRun, IsHistory, next_opening, closing}
-use Rattle.reg_top.specs.Lines.{line}
+use Rattle.reg_requests.specs.Lines.{line}
 use Rattle.reg_top.specs.History.{carry_line, round_line, row_line, rounds_text, end_line, history_text}
 use Rattle.reg_top.specs.Values.{IsDeclaredValue, IsRowValue, IsRunValue}
 use Rattle.reg_top.specs.Laws.{SameSizes, SameRound}

@@ -1,29 +1,14 @@
 -- Texts that are appended piece by piece.
-use Rattle.std.proofs.Common.{◌≡◌, ℕ, List, [], ◌∷◌, ◌++◌, map, length, sym, ◌∙◌, ap, ap₂, append_assoc, append-nil, arith}
+use Rattle.std.proofs.Common.{◌≡◌, ℕ, List, [], ◌∷◌, ◌++◌, length, ◌∙◌, ap, ap₂, append_assoc, append-nil, arith}
 use Rattle.std.specs.Prelude.{codes, sum_by}
 use Rattle.std.proofs.lemmas.List.Sums.{sum_by-cons}
 use Rattle.std.specs.List.{flat_map}
 use Rattle.std.specs.Fmt.{decimal}
 use Rattle.reg_model.specs.declared.reply.Row.{Row}
-use Rattle.reg_model.specs.declared.reply.Hit.{Hit}
-use Rattle.reg_model.specs.declared.reply.Reply.TheVariants.{Hits}
 use Rattle.reg_model.specs.Limits.{Limits}
 use Rattle.reg_model.specs.Runs.{RoundRows, nothing, next_opening}
-use Rattle.reg_top.specs.Lines.{line, spaced, call_text, hit_text, reply_text, kind_of}
+use Rattle.reg_requests.specs.Lines.{line, call_text, reply_text, kind_of}
 use Rattle.reg_top.specs.History.{round_line, row_line, end_line, history_text}
-
--- a word and others behind it: a space before each
-pub spaced-map : {X : Type 0} (f : X → List ℕ) (word : List ℕ) (xs : List X) → spaced (word ∷ map f xs) ≡ word ++ flat_map (λ x. 32 ∷ f x) xs
-spaced-map f word [] = sym (append-nil word)
-spaced-map f word (x ∷ xs) = ap (λ t. word ++ 32 ∷ t) (spaced-map f (f x) xs)
-
--- the number of hits, and then each of them
-pub hits_pieces : (kind : ℕ) (hits : List Hit) (before out after : List ℕ) → out ≡ before ++ (codes "hits " ++ decimal (length hits))
-    → after ≡ out ++ flat_map (λ hit. 32 ∷ hit_text kind hit) hits → after ≡ before ++ reply_text kind (Hits hits)
-hits_pieces kind hits before out after first rest =
-    rest ∙ ap (λ o. o ++ flat_map (λ hit. 32 ∷ hit_text kind hit) hits) first
-    ∙ append_assoc before (codes "hits " ++ decimal (length hits)) (flat_map (λ hit. 32 ∷ hit_text kind hit) hits)
-    ∙ ap (λ t. before ++ (codes "hits " ++ t)) (sym (spaced-map (hit_text kind) (decimal (length hits)) hits))
 
 -- the pieces of a row's line
 pub row_pieces : (row : Row) (o p q r s t u v w : List ℕ) → p ≡ o ++ (codes "" ++ decimal row.session) → q ≡ p ++ (codes "." ++ decimal row.number)

@@ -5,20 +5,14 @@ use Rattle.std.specs.Fmt.{digits}
 use Rattle.std.proofs.lemmas.List.Elements.{All-nil, All-from_recursion}
 use Rattle.iscc_header.specs.Bits.{bits_of}
 use Rattle.iscc_text.specs.UnitText.{unit_text}
-use Rattle.reg_model.specs.declared.call.Call.TheVariants as calls
 use Rattle.reg_model.specs.Runs.{RoundRows, IsHistory, nothing}
-use Rattle.reg_model.proofs.WorkedRows.{meta, usual, hit, two_units, two_units_lawful}
-use Rattle.reg_top.specs.declared.items.Item.{Item}
-use Rattle.reg_top.specs.declared.items.Item.TheVariants as items
-use Rattle.reg_top.specs.Lines.{line}
-use Rattle.reg_top.specs.Requests.{AreItems}
+use Rattle.reg_model.proofs.WorkedRows.{usual, hit, two_units, two_units_lawful}
+use Rattle.reg_requests.specs.Lines.{line}
+use Rattle.reg_requests.proofs.WorkedLines.{file, wanted, file_items}
 use Rattle.reg_top.specs.History.{history_text}
 use Rattle.reg_top.specs.Words.{RoundPlan}
 use Rattle.reg_top.specs.Output.{IsRunOutput, MakesCalls}
 use Rattle.reg_top.specs.Values.{IsDeclaredValue, IsHitValue, IsRowValue, IsRunValue}
-
-abbrev pub file : List ℕ
-file = line (codes "declare ISCC:AAAQAAAAAAAAAAAA") ++ line (codes "declare ISCC:AAAQAAAAAAAAAAAB") ++ line (codes "near ISCC:AAAQAAAAAAAAAAAA 1")
 
 abbrev pub output : List ℕ
 output =
@@ -39,9 +33,6 @@ round = record { limits = usual; rows = two_units }
 abbrev pub files : List ℕ → Option (List ℕ)
 files name = if bytes_eq name (codes "a.txt") then Some file else None
 
-abbrev pub asked : List Item
-asked = items.Call (calls.Declare (meta 0)) ∷ items.Call (calls.Declare (meta 1)) ∷ items.Call (calls.Near (meta 0) 1) ∷ []
-
 pub history : history_text nothing (round ∷ []) ≡
     line (codes "iscc-history 1")
     ++ line (codes "round 0 base 0 entries 4096 log 65536 callers 1")
@@ -55,8 +46,8 @@ history = refl
 abbrev pub plan : List RoundPlan
 plan = record { limits = usual; names = codes "a.txt" ∷ [] } ∷ []
 
-made : MakesCalls (asked ∷ []) round
-made zero list e = rw (← ap (λ o. unwrap_or o asked) e) refl
+made : MakesCalls (wanted ∷ []) round
+made zero list e = rw (← ap (λ o. unwrap_or o wanted) e) refl
 made (suc k) list e = absurd (cc)
 
 lawful : IsHistory nothing (round ∷ [])
@@ -74,19 +65,6 @@ lawful = record {
     tt,
   );
 }
-
-read : AreItems file asked
-unfolding unit_text bits_of digits
-read = (
-  (record { kind = lit< tt; body = lit< tt }, refl),
-  (
-    (record { kind = lit< tt; body = lit< tt }, refl),
-    (
-      ((record { kind = lit< tt; body = lit< tt }, lit≤ tt), refl),
-      tt,
-    ),
-  ),
-)
 
 -- each number of the three rows is in range
 values : IsRunValue nothing (round ∷ [])
@@ -119,9 +97,9 @@ values = record {
 pub run_output : IsRunOutput nothing plan files output
 unfolding history_text unit_text bits_of digits
 run_output = record {
-  items = (asked ∷ []) ∷ [];
+  items = (wanted ∷ []) ∷ [];
   rounds = round ∷ [];
-  read = (((file, refl, read), tt), tt);
+  read = (((file, refl, file_items), tt), tt);
   sizes = refl;
   calls = (made, tt);
   lawful = lawful;

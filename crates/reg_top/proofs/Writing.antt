@@ -1,9 +1,10 @@
 -- Writing a list of bytes piece by piece.
-use Rattle.std.proofs.Common.{◌≡◌, ℕ, List, [], ◌∷◌, ◌++◌, take, drop, Option, Some, None, refl, sym, ◌∙◌, ap, subst, append_assoc, append-nil}
+use Rattle.std.proofs.Common.{◌≡◌, ℕ, List, [], ◌++◌, take, drop, Option, Some, None, refl, sym, ◌∙◌, ap, subst, append_assoc, append-nil, arith}
 use Rattle.std.specs.Prelude.{IfSome}
 use Rattle.std.proofs.lemmas.List.{take-append-drop}
-use Rattle.reg_top.specs.Lines.{line}
+use Rattle.reg_top.specs.Faults.{Rose, Quiet}
 use Rattle.reg_top.specs.Output.{TakesWhole, TakesPart}
+use Rattle.reg_top.specs.FaultLines.{Tells}
 
 -- the bytes before the rest are taken, and no fault came
 pub record Written (before now : Option (List ℕ)) (faults_before faults : ℕ) (bytes rest : List ℕ) : Type 0 where
@@ -43,29 +44,36 @@ part_written (Some had) now next was then bytes rest written same =
     let taken = written.taken in
     (taken.0, rest, taken.1, same ∙ taken.2)
 
--- ---- a line in two parts
+-- ---- one part after the other
 
-whole_then : (a b c : Option (List ℕ)) (x y : List ℕ) → TakesWhole a b x → TakesWhole b c y → TakesWhole a c (x ++ y)
+pub whole_then : (a b c : Option (List ℕ)) (x y : List ℕ) → TakesWhole a b x → TakesWhole b c y → TakesWhole a c (x ++ y)
 whole_then None b c x y first next = tt
 whole_then (Some had) b c x y first next =
     let last : c ≡ Some ((had ++ x) ++ y) = subst (λ o. TakesWhole o c y) first next in
     last ∙ ap Some (append_assoc had x y)
 
-part_then : (a b c : Option (List ℕ)) (x y : List ℕ) → TakesWhole a b x → TakesPart b c y → TakesPart a c (x ++ y)
+pub part_then : (a b c : Option (List ℕ)) (x y : List ℕ) → TakesWhole a b x → TakesPart b c y → TakesPart a c (x ++ y)
 part_then None b c x y first next = tt
 part_then (Some had) b c x y first next =
     let last = subst (λ o. TakesPart o c y) first next in
     (x ++ last.0, last.1, append_assoc x last.0 last.1 ∙ ap (λ t. x ++ t) last.2, last.3 ∙ ap Some (append_assoc had x last.0))
 
-part_of : (a b : Option (List ℕ)) (x y : List ℕ) → TakesPart a b x → TakesPart a b (x ++ y)
+pub part_of : (a b : Option (List ℕ)) (x y : List ℕ) → TakesPart a b x → TakesPart a b (x ++ y)
 part_of None b x y part = tt
 part_of (Some had) b x y part = (part.0, part.1 ++ y, sym (append_assoc part.0 part.1 y) ∙ ap (λ t. t ++ y) part.2, part.3)
 
-pub cut_in_front : (a b : Option (List ℕ)) (front rest : List ℕ) → TakesPart a b front → TakesPart a b (line (front ++ rest))
-cut_in_front a b front rest part = part_of a b (front ++ rest) (10 ∷ []) (part_of a b front rest part)
+-- ---- the line of a fault
 
-pub cut_in_rest : (a b c : Option (List ℕ)) (front rest : List ℕ) → TakesWhole a b front → TakesPart b c rest → TakesPart a c (line (front ++ rest))
-cut_in_rest a b c front rest first part = part_of a c (front ++ rest) (10 ∷ []) (part_then a b c front rest first part)
+-- a line whose front is taken, and whose rest is told
+pub tells_then : (a b c : Option (List ℕ)) (was then faults : ℕ) (x y : List ℕ) → TakesWhole a b x → then ≡ was → Tells b c then faults y → Tells a c was faults (x ++ y)
+tells_then a b c was then faults x y first same rest = record {
+  part = part_then a b c x y first rest.part;
+  whole = λ quiet. whole_then a b c x y first (rest.whole (subst (λ n. Quiet n faults) (sym same) quiet));
+}
 
-pub cut_at_end : (a b c d : Option (List ℕ)) (front rest : List ℕ) → TakesWhole a b front → TakesWhole b c rest → TakesPart c d (10 ∷ []) → TakesPart a d (line (front ++ rest))
-cut_at_end a b c d front rest first next part = part_then a c d (front ++ rest) (10 ∷ []) (whole_then a b c front rest first next) part
+-- a line whose front is cut
+pub tells_cut : (a b : Option (List ℕ)) (was faults : ℕ) (x y : List ℕ) → TakesPart a b x → Rose was faults → Tells a b was faults (x ++ y)
+tells_cut a b was faults x y part rose = record {
+  part = part_of a b x y part;
+  whole = λ quiet. absurd (omega (arith, quiet.0, quiet.1, rose));
+}

@@ -1,18 +1,23 @@
 -- The line that a fault writes.
-use Rattle.std.specs.Prelude.{◌≡◌, ℕ, List, [], ◌++◌, Contains, Option, codes}
+use Rattle.std.specs.Prelude.{◌≡◌, ℕ, List, [], ◌∷◌, ◌++◌, Contains, Option, codes}
 use Rattle.std.specs.Fmt.{decimal}
 use Rattle.iscc_code.specs.declared.iscc.IsccFault.{IsccFault}
 use Rattle.iscc_code.specs.declared.iscc.IsccFault.TheVariants as codes_faults
+use Rattle.iscc_code.specs.declared.composing.ComposeFault.{ComposeFault}
+use Rattle.iscc_code.specs.declared.composing.ComposeFault.TheVariants as compose_faults
 use Rattle.iscc_text.specs.declared.read.TextFault.{TextFault}
 use Rattle.iscc_text.specs.declared.read.TextFault.TheVariants as text_faults
-use Rattle.iscc_text.specs.Texts.{HasTextFault}
+use Rattle.reg_top.specs.declared.refusal.WordFault.{WordFault}
+use Rattle.reg_top.specs.declared.refusal.WordFault.TheVariants as word_faults
+use Rattle.reg_top.specs.declared.refusal.Refusal.{Refusal}
+use Rattle.reg_top.specs.declared.refusal.Refusal.TheVariants as refusals
 use Rattle.reg_top.specs.declared.status.Status.{Status}
 use Rattle.reg_top.specs.declared.status.Status.TheVariants as status
 use Rattle.reg_top.specs.Faults.{Quiet}
-use Rattle.reg_top.specs.Lines.{line}
+use Rattle.reg_requests.specs.Lines.{line, spaced}
 use Rattle.reg_top.specs.Output.{TakesWhole, TakesPart}
-use Rattle.reg_top.specs.Words.{RoundPlan, IsForm, fetched_names}
-use Rattle.reg_top.specs.Words.Command.{Run, Explain}
+use Rattle.reg_top.specs.Words.{Command, IsForm, fetched_names}
+use Rattle.reg_top.specs.Refusals.{Refuses}
 use Rattle.reg_top.specs.Statuses.{status_number}
 
 -- why bytes spell no code
@@ -32,6 +37,25 @@ text_why (text_faults.Letter at) = codes "letter " ++ decimal at
 text_why text_faults.Bits = codes "bits"
 text_why (text_faults.Iscc fault) = code_why fault
 
+-- why a text stands for no unit
+abbrev pub word_why : WordFault → List ℕ
+word_why (word_faults.Text fault) = text_why fault
+word_why word_faults.NotUnit = codes "not a unit"
+
+-- why units have no composite
+abbrev pub compose_why : ComposeFault → List ℕ
+compose_why compose_faults.Twice = codes "twice"
+compose_why compose_faults.NoData = codes "no data"
+compose_why compose_faults.NoInstance = codes "no instance"
+compose_why compose_faults.Narrow = codes "narrow"
+compose_why compose_faults.SubTypes = codes "sub types"
+
+-- why a command refuses what it is given
+abbrev pub refusal_why : Refusal → List ℕ
+refusal_why (refusals.Text fault) = spaced (codes "text" ∷ text_why fault ∷ [])
+refusal_why (refusals.Word at why) = spaced (codes "word" ∷ decimal at ∷ word_why why ∷ [])
+refusal_why (refusals.Units fault) = spaced (codes "compose" ∷ compose_why fault ∷ [])
+
 -- a status and the name of the file that it tells, if it tells one
 abbrev pub status_text : Status → List ℕ → List ℕ
 status_text status.Words name = codes "fault 2 words"
@@ -39,28 +63,32 @@ status_text status.Missing name = codes "fault 3 missing " ++ name
 status_text status.Read name = codes "fault 4 read " ++ name
 status_text status.Memory name = codes "fault 6 memory"
 status_text status.TooLong name = codes "fault 7 too long " ++ name
+status_text (status.Refused why) name = codes "fault 10 " ++ refusal_why why
 status_text other name = []
 
--- the status tells no more than a file's name
-abbrev pub IsStop : Status → Type 0
-IsStop status.Done = ⊥
-IsStop status.Write = ⊥
-IsStop status.Refused = ⊥
-IsStop other = Unit {0}
+-- a line tells the status
+abbrev pub IsTold : Status → Type 0
+IsTold status.Done = ⊥
+IsTold status.Write = ⊥
+IsTold other = Unit {0}
 
--- the text is that of a status with the name of a file that the words name
-abbrev pub NamesFile : List (List ℕ) → Status → List ℕ → Type 0
-NamesFile words which text = (plan : List RoundPlan) × (name : List ℕ) × IsForm words (Run plan) × Contains (fetched_names plan) name × (text ≡ line (status_text which name))
+-- the text is the line of a status with the name of a file that the command fetches
+abbrev pub NamesFile : Command → Status → List ℕ → Type 0
+NamesFile command which text = (name : List ℕ) × Contains (fetched_names command) name × (text ≡ line (status_text which name))
+
+-- the text is the line that tells a status of this command
+abbrev pub IsCommandLine : Command → Status → List ℕ → Type 0
+IsCommandLine command status.Missing text = NamesFile command status.Missing text
+IsCommandLine command status.Read text = NamesFile command status.Read text
+IsCommandLine command status.TooLong text = NamesFile command status.TooLong text
+IsCommandLine command status.Memory text = text ≡ line (status_text status.Memory [])
+IsCommandLine command (status.Refused why) text = Refuses command why × (text ≡ line (status_text (status.Refused why) []))
+IsCommandLine command other text = ⊥
 
 -- the line of a status, where the words are these
 abbrev pub IsLineOf : List (List ℕ) → Status → List ℕ → Type 0
 IsLineOf words status.Words text = text ≡ line (status_text status.Words [])
-IsLineOf words status.Memory text = text ≡ line (status_text status.Memory [])
-IsLineOf words status.Missing text = NamesFile words status.Missing text
-IsLineOf words status.Read text = NamesFile words status.Read text
-IsLineOf words status.TooLong text = NamesFile words status.TooLong text
-IsLineOf words status.Refused text = (given : List ℕ) × (fault : TextFault) × IsForm words (Explain given) × HasTextFault given fault × (text ≡ line (codes "fault 10 text " ++ text_why fault))
-IsLineOf words other text = ⊥
+IsLineOf words other text = (command : Command) × IsForm words command × IsCommandLine command other text
 
 -- a sink has taken a front of a line, and the whole of it where no fault came
 pub record Tells (before after : Option (List ℕ)) (was faults : ℕ) (text : List ℕ) : Type 0 where

@@ -8,7 +8,7 @@ use Rattle.reg_model.specs.declared.reply.Row.{Row}
 use Rattle.reg_model.specs.Opening.{Opening}
 use Rattle.reg_model.specs.Limits.{Limits}
 use Rattle.reg_model.specs.Runs.{RoundRows, next_opening, closing, IsHistory}
-use Rattle.reg_top.specs.Lines.{line, spaced, call_text, reply_text, kind_of}
+use Rattle.reg_requests.specs.Lines.{line, spaced, call_text, reply_text, kind_of}
 
 -- a declaration that is carried into the first round
 abbrev pub carry_line : Declared → List ℕ

@@ -1,17 +1,11 @@
 -- What texts tell.
-use Rattle.std.specs.Prelude.{◌≡◌, ℕ, List}
+use Rattle.std.specs.Prelude.{◌≡◌, List}
 use Rattle.std.specs.List.{AllZip}
 use Rattle.reg_model.specs.Limits.{Limits}
 use Rattle.reg_model.specs.Opening.{Opening}
 use Rattle.reg_model.specs.Runs.{RoundRows, IsHistory}
-use Rattle.reg_top.specs.declared.items.Item.{Item}
-use Rattle.reg_top.specs.Requests.{AreItems}
 use Rattle.reg_top.specs.History.{history_text}
 use Rattle.reg_top.specs.Values.{IsRunValue}
-
--- a file has one list of items
-abbrev pub FileTellsItems : Type 0
-FileTellsItems = (file : List ℕ) (a b : List Item) → AreItems file a → AreItems file b → a ≡ b
 
 -- the same sizes, but for the bits of a bucket, which a text doesn't name
 pub record SameSizes (a b : Limits) : Type 0 where

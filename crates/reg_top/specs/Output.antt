@@ -2,20 +2,15 @@
 use Rattle.std.specs.Prelude.{◌≡◌, ℕ, ◌+◌, List, [], ◌∷◌, ◌++◌, map, slice_get, Option, Some, IfSome, codes}
 use Rattle.std.specs.List.{AllZip}
 use Rattle.std.specs.Fmt.{decimal}
-use Rattle.serde_json.specs.Data.{Data}
-use Rattle.serde_json.specs.Written.{compact_text}
-use Rattle.iscc_code.specs.declared.iscc.Iscc.{Iscc}
-use Rattle.iscc_text.specs.Texts.{StandsFor}
-use Rattle.iscc_text.specs.Explanations.{Explains}
 use Rattle.reg_model.specs.declared.reply.Row.{Row}
 use Rattle.reg_model.specs.Opening.{Opening}
 use Rattle.reg_model.specs.Rows.{session_rows}
 use Rattle.reg_model.specs.Runs.{RoundRows, IsHistory, nothing}
-use Rattle.reg_top.specs.declared.items.Item.{Item}
-use Rattle.reg_top.specs.declared.items.Item.TheVariants as items
+use Rattle.reg_requests.specs.declared.items.Item.{Item}
+use Rattle.reg_requests.specs.declared.items.Item.TheVariants as items
 use Rattle.reg_top.specs.Files.{Files}
-use Rattle.reg_top.specs.Lines.{line, spaced, reply_text, bad_text, kind_of}
-use Rattle.reg_top.specs.Requests.{AreItems, calls_of}
+use Rattle.reg_requests.specs.Lines.{line, spaced, reply_text, bad_text, kind_of}
+use Rattle.reg_requests.specs.Requests.{AreItems, calls_of}
 use Rattle.reg_top.specs.History.{history_text}
 use Rattle.reg_top.specs.Words.{RoundPlan}
 use Rattle.reg_top.specs.Values.{IsRunValue}
@@ -71,23 +66,3 @@ TakesPart before after output = IfSome before (λ bytes. (front rest : List ℕ)
 -- Where the shelf tells its files and the sink its bytes, the sink has taken the output of the run, and nothing else.
 abbrev pub WritesRun : List RoundPlan → Option Files → Option (List ℕ) → Option (List ℕ) → Type 0
 WritesRun plan files before after = IfSome files (λ map. (output : List ℕ) × IsRunOutput nothing plan map output × TakesWhole before after output)
-
--- it has taken some front of such an output
-abbrev pub WritesFront : List RoundPlan → Option Files → Option (List ℕ) → Option (List ℕ) → Type 0
-WritesFront plan files before after = IfSome files (λ map. (output : List ℕ) × IsRunOutput nothing plan map output × TakesPart before after output)
-
--- the output is the one line that explains the code for which the text stands: the compact text of its tree
-pub record IsExplanation (text output : List ℕ) : Type 0 where
-  pub iscc : Iscc
-  pub read : StandsFor text iscc
-  pub tree : Data
-  pub explains : Explains iscc tree
-  pub printed : output ≡ line (compact_text tree)
-
--- the sink has taken the explanation of the text, and nothing else
-abbrev pub WritesExplanation : List ℕ → Option (List ℕ) → Option (List ℕ) → Type 0
-WritesExplanation text before after = (output : List ℕ) × IsExplanation text output × TakesWhole before after output
-
--- it has taken some front of it
-abbrev pub ExplainsFront : List ℕ → Option (List ℕ) → Option (List ℕ) → Type 0
-ExplainsFront text before after = (output : List ℕ) × IsExplanation text output × TakesPart before after output

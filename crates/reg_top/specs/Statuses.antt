@@ -6,11 +6,9 @@ use Rattle.reg_top.specs.declared.status.Status.{Status}
 use Rattle.reg_top.specs.declared.status.Status.TheVariants as status
 use Rattle.reg_top.specs.Faults.{Quiet}
 use Rattle.reg_top.specs.Files.{Files}
-use Rattle.reg_top.specs.Words.{Command, RoundPlan, IsForm, fetched_names}
-use Rattle.reg_top.specs.Words.Command.{Run, Explain}
-use Rattle.iscc_code.specs.declared.iscc.Iscc.{Iscc}
-use Rattle.iscc_text.specs.declared.read.TextFault.{TextFault}
-use Rattle.iscc_text.specs.Texts.{StandsFor, HasTextFault}
+use Rattle.reg_top.specs.Words.{Command, IsForm, fetched_names}
+use Rattle.reg_top.specs.Words.Command.{Run, Instance}
+use Rattle.reg_top.specs.Refusals.{Accepts}
 
 -- The status comes only where P holds, and where P holds it comes, unless memory is wanting.
 pub record Exactly (result status : ℕ) (P : Type 0) : Type 0 where
@@ -31,13 +29,19 @@ abbrev pub first_refusal : ℕ → Files → List (List ℕ) → Option FetchFau
 first_refusal limit files [] = None
 first_refusal limit files (name ∷ names) = refusal_then limit (files name) (first_refusal limit files names)
 
--- the greatest length of a request file
-abbrev pub request_limit : ℕ
-request_limit = 2 ^ 24
+-- the greatest length of a file that a command fetches: of a request file, and of one that gets an Instance-Code
+abbrev pub fetch_limit : Command → ℕ
+fetch_limit (Run plan) = 2 ^ 24
+fetch_limit (Instance name) = 2 ^ 28
+fetch_limit command = 0
 
--- where the shelf tells its files: a run's first fetch that isn't Ok has this cause
+-- the first fault of the files that a command fetches, if there is one
+abbrev pub file_fault : Files → Command → Option FetchFault
+file_fault files command = first_refusal (fetch_limit command) files (fetched_names command)
+
+-- where the shelf tells its files: the command's first fetch that isn't Ok has this cause
 abbrev pub StopsBy : List (List ℕ) → Files → FetchFault → Type 0
-StopsBy words files fault = (plan : List RoundPlan) × IsForm words (Run plan) × (first_refusal request_limit files (fetched_names plan) ≡ Some fault)
+StopsBy words files fault = (command : Command) × IsForm words command × (file_fault files command ≡ Some fault)
 
 -- A status that tells a fault of a file: only where that file is the first to stop the run and no fetch failed, and there,
 -- unless memory is wanting.
@@ -48,8 +52,12 @@ pub record IsStopStatus (result status : ℕ) (words : List (List ℕ)) (files :
 
 -- accepted words, files that are there and in limit, and no fault: all is done, or memory is wanting
 abbrev pub IsDone : ℕ → List (List ℕ) → Option Files → Type 0
-IsDone result words files = (plan : List RoundPlan) → IsForm words (Run plan)
-    → IfSome files (λ map. first_refusal request_limit map (fetched_names plan) ≡ None → (result ≡ 0) ⊎ (result ≡ 6))
+IsDone result words files = (command : Command) → IsForm words command → Accepts command
+    → IfSome files (λ map. file_fault map command ≡ None → (result ≡ 0) ⊎ (result ≡ 6))
+
+-- the same for a command that fetches no file, whatever the shelf tells
+abbrev pub IsAnswered : ℕ → List (List ℕ) → Type 0
+IsAnswered result words = (command : Command) → IsForm words command → Accepts command → fetched_names command ≡ [] → (result ≡ 0) ⊎ (result ≡ 6)
 
 -- the number of each status
 abbrev pub status_number : Status → ℕ
@@ -60,16 +68,8 @@ status_number status.Read = 4
 status_number status.Write = 5
 status_number status.Memory = 6
 status_number status.TooLong = 7
-status_number status.Refused = 10
+status_number (status.Refused why) = 10
 
 -- the statuses there are
 abbrev pub statuses : List ℕ
 statuses = 0 ∷ 2 ∷ 3 ∷ 4 ∷ 5 ∷ 6 ∷ 7 ∷ 10 ∷ []
-
--- a text that a command is given stands for no code
-abbrev pub IsRefused : List (List ℕ) → Type 0
-IsRefused words = (text : List ℕ) × (fault : TextFault) × IsForm words (Explain text) × HasTextFault text fault
-
--- a text that stands for a code is explained, or memory is wanting
-abbrev pub IsExplained : ℕ → List (List ℕ) → Type 0
-IsExplained result words = (text : List ℕ) (iscc : Iscc) → IsForm words (Explain text) → StandsFor text iscc → (result ≡ 0) ⊎ (result ≡ 6)

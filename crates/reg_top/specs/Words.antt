@@ -1,34 +1,34 @@
 -- The words of a command line.
 use Rattle.std.specs.List.{flat_map}
-use Rattle.std.specs.Str.Parse.{AllDigits, digits_value}
-use Rattle.std.specs.Prelude.{◌⊎◌, ◌≤◌, ◌≡◌, ◌≢◌, ℕ, ◌<◌, ◌^◌, List, [], ◌∷◌, ◌++◌, length, codes, slice_get, Some}
+use Rattle.std.specs.Prelude.{◌⊎◌, ◌≡◌, ◌≢◌, ℕ, ◌<◌, List, [], ◌∷◌, ◌++◌, length, codes, slice_get, All, Some}
+use Rattle.reg_requests.specs.Numbers.{IsNumber}
 use Rattle.reg_model.specs.Limits.{Limits}
+use Rattle.reg_top.specs.declared.words.SideWord.{SideWord}
+use Rattle.reg_top.specs.declared.words.SideWord.TheVariants as side
 
 -- a round's sizes, and the names of its sessions' files
 pub record RoundPlan : Type 0 where
   pub limits : Limits
   pub names : List (List ℕ)
 
--- the names of the files that a run fetches, in order
-abbrev pub fetched_names : List RoundPlan → List (List ℕ)
-fetched_names plan = flat_map (λ round. round.names) plan
-
--- what a command line asks: to serve the files of some rounds, or to explain a text
+-- what a command line asks: to serve the files of some rounds, to explain a text, to compose the units of some texts, or to give
+-- the Instance-Code of a file
 pub data Command : Type 0 where
   Run : List RoundPlan → Command
   Explain : List ℕ → Command
+  Compose : List (List ℕ) → Command
+  Instance : List ℕ → Command
+
+-- the names of the files that a command fetches, in order
+abbrev pub fetched_names : Command → List (List ℕ)
+fetched_names (Run plan) = flat_map (λ round. round.names) plan
+fetched_names (Instance name) = name ∷ []
+fetched_names command = []
 
 -- a word that isn't empty and doesn't begin with `-`
 abbrev pub IsValue : List ℕ → Type 0
 IsValue [] = ⊥
 IsValue (first ∷ word) = first ≢ 45
-
--- 1 to 20 decimal digits with a value below 2 ^ 64
-pub record IsNumber (text : List ℕ) : Type 0 where
-  pub some : 0 < length text
-  pub few : length text ≤ 20
-  pub digits : AllDigits 10 text
-  pub value : digits_value 10 text < 2 ^ 64
 
 -- two numbers with a colon between them
 abbrev pub AreSizes : List ℕ → Type 0
@@ -44,10 +44,16 @@ pub record IsRunOf (words : List (List ℕ)) (name : List ℕ) : Type 0 where
   pub value : IsValue name
   pub no_mark : IsRoundMark name → ⊥
 
--- the words are `explain` and a text
-pub record IsExplainOf (words : List (List ℕ)) (text : List ℕ) : Type 0 where
-  pub words_are : words ≡ codes "explain" ∷ text ∷ []
-  pub value : IsValue text
+-- the words are a command's first word and one value
+pub record HasOneValue (words : List (List ℕ)) (first value : List ℕ) : Type 0 where
+  pub words_are : words ≡ first ∷ value ∷ []
+  pub is_value : IsValue value
+
+-- the words are `compose` and one text or more
+pub record HasTexts (words texts : List (List ℕ)) : Type 0 where
+  pub words_are : words ≡ codes "compose" ∷ texts
+  pub some : 0 < length texts
+  pub are_values : All IsValue texts
 
 -- the sizes of a round whose words name none
 abbrev pub usual_limits : ℕ → Limits
@@ -60,8 +66,16 @@ plan_of name = record { limits = usual_limits 1; names = name ∷ [] } ∷ []
 -- the words are of the form of a command
 abbrev pub IsForm : List (List ℕ) → Command → Type 0
 IsForm words (Run plan) = (name : List ℕ) × IsRunOf words name × (plan ≡ plan_of name)
-IsForm words (Explain text) = IsExplainOf words text
+IsForm words (Explain text) = HasOneValue words (codes "explain") text
+IsForm words (Compose texts) = HasTexts words texts
+IsForm words (Instance name) = HasOneValue words (codes "instance") name
+
+-- the first word of each command that serves nothing
+abbrev pub side_text : SideWord → List ℕ
+side_text side.Explain = codes "explain"
+side_text side.Compose = codes "compose"
+side_text side.Instance = codes "instance"
 
 -- the first word is that of a command that serves nothing
 abbrev pub IsSideCommand : List (List ℕ) → Type 0
-IsSideCommand words = slice_get words 0 ≡ Some (codes "explain")
+IsSideCommand words = (which : SideWord) × (slice_get words 0 ≡ Some (side_text which))

@@ -3,9 +3,9 @@ ghost use Rattle.std.specs.List.{flat_map};
 ghost use Rattle.reg_model.specs.Runs.{nothing, next_opening};
 ghost use Rattle.reg_top.specs.History.{round_line, row_line, end_line, history_text};
 
-use crate::print::{kind_of, print_call, print_reply, print_word, print_word_number};
 use iscc_header::NoMemory;
 use reg_model::{Row, Sizes};
+use reg_requests::{kind_of, print_call, print_reply, print_word, print_word_number};
 
 /// Appends the text of a history that has one round and began with nothing. `live` is how many declarations are live
 /// at its end.

@@ -1,11 +1,6 @@
 //! Laws of the texts. The functions do nothing: their contracts are the laws.
 
-ghost use Rattle.reg_top.specs.Laws.{FileTellsItems, TextTellsRun};
-
-/// The calls and refusals of a request file are told by its bytes.
-pub fn a_file_has_one_list_of_items()
-    ensures { FileTellsItems }
-{}
+ghost use Rattle.reg_top.specs.Laws.{TextTellsRun};
 
 /// The rounds of a history are told by its text: where it begins, its rows, and its sizes but for the bits of a bucket.
 pub fn a_history_text_has_one_run()

@@ -1,13 +1,12 @@
 ghost use Rattle.std.specs.Prelude.{◌≡◌, ◌∷◌, ◌++◌, [], List, OnOk, IfOk, codes};
 ghost use Rattle.std.specs.Fmt.{decimal};
-ghost use Rattle.reg_top.specs.Lines.{line, spaced};
-ghost use Rattle.reg_top.specs.declared.items.Item.{Item as AnItem};
+ghost use Rattle.reg_requests.specs.Lines.{line, spaced};
+ghost use Rattle.reg_requests.specs.declared.items.Item.{Item as AnItem};
 ghost use Rattle.reg_top.specs.Output.{item_lines};
 
-use crate::items::Item;
-use crate::print::{kind_of, print_bad, print_reply, print_word, print_word_number};
 use iscc_header::NoMemory;
 use reg_model::{Call, Row};
+use reg_requests::{Item, kind_of, print_bad, print_reply, print_word, print_word_number};
 
 /// Appends the replies to a session: the line that names it, and a line for each item of its file. The rows are the
 /// session's, in order.

@@ -1,32 +1,39 @@
-ghost use Rattle.std.specs.Prelude.{◌≡◌, ◌≢◌, ◌<◌, ◌≤◌, ◌^◌, [], List, ℕ, Some, IfOk, IfSome, OnOk, IsErr, MatchResult, Contains, All, length, map, count_by};
+ghost use Rattle.std.specs.Prelude.{◌≡◌, ◌≢◌, ◌<◌, ◌≤◌, ◌^◌, [], List, ℕ, Some, IfOk, IfErr, OnOk, IsErr, Contains, All, length, map, count_by};
 ghost use Rattle.reg_model.specs.Rows.{is_accepted, IsLawful, session_rows};
 ghost use Rattle.reg_model.specs.Runs.{nothing};
 ghost use Rattle.reg_top.specs.Faults.{Rose, Quiet};
 ghost use Rattle.reg_top.specs.Files.{Files};
-ghost use Rattle.reg_top.specs.Requests.{IsRequest, IsItem, TakesCode, calls_of as calls_asked};
-ghost use Rattle.reg_top.specs.declared.items.Item.{Item as AnItem};
+ghost use Rattle.reg_requests.specs.declared.items.Line.{Line as ALine};
+ghost use Rattle.reg_requests.specs.Words.{line_words};
+ghost use Rattle.reg_requests.specs.Requests.{ReadsLine, IsRequest, calls_of as calls_asked};
+ghost use Rattle.reg_requests.specs.TakenCodes.{HasCodeText, TakesCode};
 ghost use Rattle.reg_top.specs.declared.shelf.FetchFault.TheVariants.{Missing, TooLong};
 ghost use Rattle.reg_top.specs.Words.{plan_of, RoundPlan, IsForm, IsSideCommand};
-ghost use Rattle.reg_top.specs.Words.Command.{Run, Explain};
+ghost use Rattle.reg_top.specs.Words.{Command};
+ghost use Rattle.reg_top.specs.Words.Command.{Run, Explain, Compose, Instance};
 ghost use Rattle.reg_top.specs.FaultLines.{TellsStatus};
-ghost use Rattle.reg_top.specs.Ends.{Stops, IsServed, Ends, IsOutcome};
-ghost use Rattle.reg_top.specs.Statuses.{Exactly, HasNoForm, IsStopStatus, IsRefused, IsDone, IsExplained, statuses, status_number};
-ghost use Rattle.reg_top.specs.Output.{IsRunOutput, WritesRun, WritesFront, WritesExplanation, ExplainsFront};
+ghost use Rattle.reg_top.specs.Refusals.{IsRefused};
+ghost use Rattle.reg_top.specs.Ends.{StopsFetch, IsFetched, Ends, IsOutcome};
+ghost use Rattle.reg_top.specs.Statuses.{Exactly, HasNoForm, IsStopStatus, IsDone, IsAnswered, statuses, status_number};
+ghost use Rattle.reg_top.specs.Output.{IsRunOutput, WritesRun};
+ghost use Rattle.reg_top.specs.SideOutput.{WritesExplanation, WritesComposition, WritesInstance};
+ghost use Rattle.reg_top.specs.CommandOutput.{IsOutput, WritesFront};
 
 use crate::args::Args;
-use crate::cut::read_items;
+use crate::fault_line::tell_status;
+use crate::fetch::fetch_file;
 use crate::history::print_history;
-use crate::items::Item;
 use crate::replies::print_replies;
 use crate::serve::serve;
-use crate::shelf::{FetchFault, Shelf};
+use crate::shelf::Shelf;
 use crate::side_commands::side;
-use crate::sink::{Failed, Sink};
+use crate::sink::Sink;
 use crate::status::Status;
 use crate::words::run_file;
-use crate::write::{tell, tell_status, write_all};
+use crate::write::write_output;
 use iscc_header::NoMemory;
 use reg_model::{Call, Carried, Plain, Reply, Row, Sizes, StartFault};
+use reg_requests::{Item, read_requests};
 use std::alloc::Global;
 
 // The greatest length of a request file, in bytes.
@@ -47,12 +54,20 @@ pub fn top<F: Shelf, K: Sink>(alloc: Global, words: &Args, shelf: &mut F, sink: 
     ensures run { (plan : List RoundPlan) → IsForm words.now (Run plan) → result ≡ 0
         → WritesRun plan (F.files shelf.old) (K.taken sink.old) (K.taken sink.new) }
 
-    // A line is taken as a code exactly where it has a unit's printed text.
-    ensures text { (text : List ℕ) (item : AnItem) → IsItem text item → TakesCode text item }
+    // The text of a `declare` or a `near` line is taken as a code exactly where it stands for one.
+    ensures text { (line text : List ℕ) (read : ALine) → ReadsLine line read → HasCodeText (line_words line) text → TakesCode text read }
 
     // The output is the explanation of the given text.
     ensures explain { (text : List ℕ) → IsForm words.now (Explain text) → result ≡ 0
         → WritesExplanation text (K.taken sink.old) (K.taken sink.new) }
+
+    // The output is the printed text of the composite of the units for which the texts stand.
+    ensures compose { (texts : List (List ℕ)) → IsForm words.now (Compose texts) → result ≡ 0
+        → WritesComposition texts (K.taken sink.old) (K.taken sink.new) }
+
+    // The output is the printed text of the Instance-Code of the named file.
+    ensures instance { (name : List ℕ) → IsForm words.now (Instance name) → result ≡ 0
+        → WritesInstance name (F.files shelf.old) (K.taken sink.old) (K.taken sink.new) }
 
     // Each status has its cause, in this order.
     ensures words { Exactly result 2 (HasNoForm words.now) }
@@ -63,16 +78,15 @@ pub fn top<F: Shelf, K: Sink>(alloc: Global, words: &Args, shelf: &mut F, sink: 
     ensures write { result ≡ 5 → Rose (K.faults sink.old) (K.faults sink.new) }
     ensures known { Contains statuses result }
 
-    // Without faults, accepted words, files and texts are served, or memory is wanting.
+    // Without faults, accepted words, files and texts are served, or memory is wanting; where no file is fetched, whatever the
+    // shelf's faults are.
     ensures done { Quiet (F.fetch_faults shelf.old) (F.fetch_faults shelf.new) → Quiet (K.faults sink.old) (K.faults sink.new)
         → IsDone result words.now (F.files shelf.old) }
-    ensures explained { Quiet (K.faults sink.old) (K.faults sink.new) → IsExplained result words.now }
+    ensures answered { Quiet (K.faults sink.old) (K.faults sink.new) → IsAnswered result words.now }
 
     // What the sink and the shelf have afterwards.
-    ensures cut_short { (plan : List RoundPlan) → IsForm words.now (Run plan) → result ≡ 5
-        → WritesFront plan (F.files shelf.old) (K.taken sink.old) (K.taken sink.new) }
-    ensures explain_cut { (text : List ℕ) → IsForm words.now (Explain text) → result ≡ 5
-        → ExplainsFront text (K.taken sink.old) (K.taken sink.new) }
+    ensures cut_short { (command : Command) → IsForm words.now command → result ≡ 5
+        → WritesFront command (F.files shelf.old) (K.taken sink.old) (K.taken sink.new) }
     ensures told { result ≢ 0 → result ≢ 5
         → TellsStatus words.now result (K.taken sink.old) (K.taken sink.new) (K.faults sink.old) (K.faults sink.new) }
     ensures same { F.files shelf.new ≡ F.files shelf.old }
@@ -97,7 +111,7 @@ fn serve_words<F: Shelf, K: Sink>(
 {
     match run_file(words) {
         None => {
-            tell(sink, b"fault 2 words", b"");
+            tell_status(sink, Status::Words, "");
             Status::Words
         }
         Some(name) => run(alloc, name, shelf, sink),
@@ -106,41 +120,33 @@ fn serve_words<F: Shelf, K: Sink>(
 
 // Fetches the file, serves its calls, and writes the output.
 fn run<F: Shelf, K: Sink>(alloc: Global, name: &str, shelf: &mut F, sink: &mut K) -> Status
-    ensures ends { Ends name.now (F.files shelf.old) (F.fetch_faults shelf.old) (F.fetch_faults shelf.new)
+    ensures ends { Ends (Run (plan_of name.now)) (F.files shelf.old) (F.fetch_faults shelf.old) (F.fetch_faults shelf.new)
         (K.taken sink.old) (K.taken sink.new) (K.faults sink.old) (K.faults sink.new) result }
     ensures same { F.files shelf.new ≡ F.files shelf.old }
 {
     match make_output(alloc, name, shelf) {
+        Ok(output) => write_output(sink, output.as_slice()),
         Err(status) => {
             tell_status(sink, status, name);
             status
         }
-        Ok(output) => match write_all(sink, output.as_slice()) {
-            Ok(()) => Status::Done,
-            Err(Failed) => Status::Write,
-        },
     }
 }
 
 // The whole output of a run, which is in memory before the first byte of it is written.
 fn make_output<F: Shelf>(alloc: Global, name: &str, shelf: &mut F) -> Result<Vec<u8>, Status>
-    ensures made { MatchResult result
-        (λ output. IfSome (F.files shelf.old) (λ files. IsRunOutput nothing (plan_of name.now) files output.items))
-        (λ status. Stops name.now (F.files shelf.old) (F.fetch_faults shelf.old) (F.fetch_faults shelf.new) status) }
-    ensures served { OnOk result (IsServed name.now (F.files shelf.old)) }
-    ensures quiet { OnOk result (F.fetch_faults shelf.new ≡ F.fetch_faults shelf.old) }
+    ensures made { IfOk result (λ output. IsOutput (Run (plan_of name.now)) (F.files shelf.old) output.items) }
+    ensures fetched { OnOk result (IsFetched (Run (plan_of name.now)) (F.files shelf.old) (F.fetch_faults shelf.old) (F.fetch_faults shelf.new)) }
+    ensures stops { IfErr result (StopsFetch REQUEST_MOST name.now (F.files shelf.old) (F.fetch_faults shelf.old) (F.fetch_faults shelf.new)) }
     ensures same { F.files shelf.new ≡ F.files shelf.old }
 {
-    let mut file = Vec::new(alloc);
-    match shelf.fetch(name, &mut file, REQUEST_MOST) {
-        Ok(()) => match output_of(alloc, file.as_slice()) {
-            Ok(output) => Ok(output),
-            Err(NoMemory) => Err(Status::Memory),
-        },
-        Err(FetchFault::Failed) => Err(Status::Read),
-        Err(FetchFault::Missing) => Err(Status::Missing),
-        Err(FetchFault::TooLong) => Err(Status::TooLong),
-        Err(FetchFault::NoMemory) => Err(Status::Memory),
+    let file = match fetch_file(alloc, name, shelf, REQUEST_MOST) {
+        Ok(file) => file,
+        Err(status) => return Err(status),
+    };
+    match output_of(alloc, file.as_slice()) {
+        Ok(output) => Ok(output),
+        Err(NoMemory) => Err(Status::Memory),
     }
 }
 
@@ -150,7 +156,7 @@ fn output_of(alloc: Global, file: &[u8]) -> Result<Vec<u8>, NoMemory>
     ensures { IfOk result (λ output. (files : Files) (name : List ℕ) → files name ≡ Some file.now
         → IsRunOutput nothing (plan_of name) files output.items) }
 {
-    let items = read_items(alloc, file)?;
+    let items = read_requests(alloc, file)?;
     let sizes = Sizes::new(ENTRIES, LOG, BITS, 1).unwrap();
     let rows = rows_of(alloc, &sizes, items.as_slice())?;
     let mut output = Vec::new(alloc);

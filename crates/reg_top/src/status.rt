@@ -1,6 +1,8 @@
 ghost use Rattle.std.specs.Prelude.{◌≡◌};
 ghost use Rattle.reg_top.specs.Statuses.{status_number};
 
+use crate::refusal::Refusal;
+
 /// How a command ended.
 #[derive(Clone, Copy, Debug, PartialEq, Eq)]
 pub enum Status {
@@ -18,8 +20,8 @@ pub enum Status {
     Memory,
     /// A file is longer than its limit.
     TooLong,
-    /// A text stands for no code.
-    Refused,
+    /// What the command is given is refused.
+    Refused(Refusal),
 }
 
 impl Status {
@@ -35,7 +37,7 @@ impl Status {
             Status::Write => 5,
             Status::Memory => 6,
             Status::TooLong => 7,
-            Status::Refused => 10,
+            Status::Refused(_) => 10,
         }
     }
 }

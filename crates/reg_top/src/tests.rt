@@ -2,6 +2,9 @@ use super::*;
 use std::alloc::{AllocError, Global};
 use std::test::Fail;
 
+mod lines;
+mod side;
+
 // Room for the output of a small run.
 const ROOM: usize = 4096;
 
@@ -90,38 +93,6 @@ fn a_body_out_of_range_or_of_another_kind_is_no_hit(rt: HostRuntime) -> Result<(
 }
 
 #[test]
-fn lines_of_no_form_are_refused_and_make_no_row(rt: HostRuntime) -> Result<(), Fail> {
-    let bad = [
-        "declare",
-        "declare ",
-        "declare  ISCC:AAAQAAAAAAAAAAAA",
-        "declare ISCC:AAAQAAAAAAAAAAAA ",
-        "declare iscc:aaaqaaaaaaaaaaaa",
-        "declare ISCC:AAAQAAAAAAAAAAAA\r",
-        "near ISCC:AAAQAAAAAAAAAAAA",
-        "near ISCC:AAAQAAAAAAAAAAAA ",
-        "near ISCC:AAAQAAAAAAAAAAAA 16",
-        "near ISCC:AAAQAAAAAAAAAAAA 01",
-        "near ISCC:AAAQAAAAAAAAAAAA -1",
-        "near ISCC:AAAQAAAAAAAAAAAA 1 ",
-        "find ISCC:AAAQAAAAAAAAAAAA",
-        "withdraw 0",
-        " ",
-        "\r",
-        "\0",
-        "\u{e9}",
-    ];
-    for line in bad {
-        let (status, output) = run_text(rt.alloc(), line)?;
-        assert_eq!(rt; status, 0);
-        let want =
-            "replies 0 0\nbad line\niscc-history 1\nround 0 base 0 entries 4096 log 65536 callers 1\nend 0 live 0\n";
-        assert_eq!(rt; output.as_str(), want, "{line}");
-    }
-    Ok(())
-}
-
-#[test]
 fn an_empty_line_is_skipped_and_a_last_line_needs_no_line_feed(
     rt: HostRuntime,
 ) -> Result<(), Fail> {
@@ -170,7 +141,7 @@ fn the_last_entry_is_taken_and_one_more_declaration_is_refused(
 #[test]
 fn other_words_are_refused_before_anything_is_fetched(rt: HostRuntime) -> Result<(), Fail> {
     let alloc = rt.alloc();
-    let lists: [&[&str]; 17] = [
+    let lists: [&[&str]; 24] = [
         &[],
         &["run"],
         &["run", ""],
@@ -186,6 +157,13 @@ fn other_words_are_refused_before_anything_is_fetched(rt: HostRuntime) -> Result
         &["explain", ""],
         &["explain", "-"],
         &["explain", "AAA", "AAA"],
+        &["compose"],
+        &["compose", ""],
+        &["compose", "AAAQAAAAAAAAAAAA", "-"],
+        &["instance"],
+        &["instance", ""],
+        &["instance", "-"],
+        &["instance", "a.txt", "a.txt"],
         &["check", "a.txt"],
         &["a.txt"],
     ];
@@ -267,53 +245,6 @@ fn a_sink_that_fails_in_a_fault_line_leaves_the_status(rt: HostRuntime) -> Resul
         3
     );
     assert_eq!(rt; taken_text(alloc, &sink)?.as_str(), "fault 3 mi");
-    Ok(())
-}
-
-// The status of an explanation of this text, and what the sink has taken.
-fn explain_text(alloc: Global, text: &str) -> Result<(Option<u8>, String), Fail> {
-    let mut shelf = shelf_of(alloc, b"", &[])?;
-    let mut sink = sink_of(alloc, ROOM, usize::MAX)?;
-    let status = side(
-        alloc,
-        &words_of(alloc, &["explain", text])?,
-        &mut shelf,
-        &mut sink,
-    );
-    Ok((status, taken_text(alloc, &sink)?))
-}
-
-#[test]
-fn a_code_is_explained_in_one_line(rt: HostRuntime) -> Result<(), Fail> {
-    let want =
-        "{\"bits\":64,\"body\":\"af1349b9f5f9a1a6\",\"main\":\"INSTANCE\",\"sub\":\"NONE\",\"text\":\"ISCC:IAA26E2JXH27TING\"}\n";
-    let (status, output) = explain_text(rt.alloc(), " iscc:iaa2-6e2j-xh27-ting ")?;
-    assert_eq!(rt; status, Some(0));
-    assert_eq!(rt; output.as_str(), want);
-    Ok(())
-}
-
-#[test]
-fn a_text_that_stands_for_no_code_is_told_with_its_first_fault(
-    rt: HostRuntime,
-) -> Result<(), Fail> {
-    let cases = [
-        ("AAA", "fault 10 text bits\n"),
-        ("IPFS:AAAQ", "fault 10 text scheme\n"),
-        ("ISCC:AA1Q", "fault 10 text letter 7\n"),
-        ("ISCC:", "fault 10 text header\n"),
-        ("KUAAAAAAAAAAAAAAAAAAAAAAAAAAA", "fault 10 text main type\n"),
-        ("AAIQAAAAAAAAAAAA", "fault 10 text version\n"),
-        ("AAEAAAAA", "fault 10 text length\n"),
-        ("AEAQAAAAAAAAAAAA", "fault 10 text sub type\n"),
-        ("AAAQAAAAAAAAA", "fault 10 text short\n"),
-        ("AAAQAAAAAAAAAAAAAA", "fault 10 text long\n"),
-    ];
-    for (text, line) in cases {
-        let (status, output) = explain_text(rt.alloc(), text)?;
-        assert_eq!(rt; status, Some(10), "{text}");
-        assert_eq!(rt; output.as_str(), line, "{text}");
-    }
     Ok(())
 }
 

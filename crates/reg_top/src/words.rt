@@ -1,7 +1,9 @@
-ghost use Rattle.std.specs.Prelude.{ℕ, List, ◌↔◌, IsTrue, IfSome, IfNone};
-ghost use Rattle.reg_top.specs.Words.{IsValue, IsNumber, IsRoundMark, AreSizes, IsRunOf, IsExplainOf, IsSideCommand};
+ghost use Rattle.std.specs.Prelude.{◌≡◌, ◌<◌, ℕ, List, ◌↔◌, IsTrue, IfSome, IfNone, All, length, drop, slice_get};
+ghost use Rattle.reg_requests.specs.Numbers.{IsNumber};
+ghost use Rattle.reg_top.specs.Words.{IsValue, IsRoundMark, AreSizes, IsRunOf, HasOneValue, side_text, IsSideCommand};
 
 use crate::args::Args;
+use reg_requests::read_number;
 
 /// The name of the file that a `run` names, where the words are of that form.
 pub(crate) fn run_file(words: &Args) -> Option<&str>
@@ -19,23 +21,60 @@ pub(crate) fn run_file(words: &Args) -> Option<&str>
     }
 }
 
-/// Whether the first word is that of a command that serves nothing.
-pub(crate) fn is_side(words: &Args) -> bool
-    ensures { IsTrue result ↔ IsSideCommand words.now }
-{
-    words.len() > 0 && words.word(0) == "explain"
+/// The first word of a command that serves nothing.
+#[derive(Clone, Copy, Debug, PartialEq, Eq)]
+pub enum SideWord {
+    Explain,
+    Compose,
+    Instance,
 }
 
-/// The text that an `explain` is given, where the words are of that form.
-pub(crate) fn explain_text(words: &Args) -> Option<&str>
-    ensures found { IfSome result (λ text. IsExplainOf words.now text.now) }
-    ensures none { IfNone result ((text : List ℕ) → IsExplainOf words.now text → ⊥) }
+/// Which command that serves nothing the first word names, if it names one.
+pub(crate) fn side_word(words: &Args) -> Option<SideWord>
+    ensures found { IfSome result (λ which. slice_get words.now 0 ≡ Some (side_text which)) }
+    ensures none { IfNone result (IsSideCommand words.now → ⊥) }
 {
-    if words.len() != 2 || words.word(0) != "explain" {
+    if words.len() == 0 {
         return None;
     }
-    let text = words.word(1);
-    if is_value(text) { Some(text) } else { None }
+    let word = words.word(0);
+    if word == "explain" {
+        return Some(SideWord::Explain);
+    }
+    if word == "compose" {
+        return Some(SideWord::Compose);
+    }
+    if word == "instance" {
+        return Some(SideWord::Instance);
+    }
+    None
+}
+
+/// The one value behind a command's first word, where the words are of that form.
+pub(crate) fn one_value<'a>(words: &'a Args, first: &str) -> Option<&'a str>
+    ensures found { IfSome result (λ value. HasOneValue words.now first.now value.now) }
+    ensures none { IfNone result ((value : List ℕ) → HasOneValue words.now first.now value → ⊥) }
+{
+    if words.len() != 2 || words.word(0) != first {
+        return None;
+    }
+    let value = words.word(1);
+    if is_value(value) { Some(value) } else { None }
+}
+
+/// Whether behind the first word stand texts, one or more.
+pub(crate) fn has_texts(words: &Args) -> bool
+    ensures { IsTrue result ↔ ((0 < length (drop 1 words.now)) × All IsValue (drop 1 words.now)) }
+{
+    if words.len() < 2 {
+        return false;
+    }
+    for at in 0..words.len() - 1 {
+        if !is_value(words.word(at + 1)) {
+            return false;
+        }
+    }
+    true
 }
 
 // A word that isn't empty and doesn't begin with `-`.
@@ -68,12 +107,8 @@ fn are_sizes(text: &str) -> bool
     }
 }
 
-// 1 to 20 decimal digits with a value below 2^64.
 fn is_number(text: &str) -> bool
     ensures { IsTrue result ↔ IsNumber text.now }
 {
-    match text.as_bytes() {
-        [] => false,
-        [first, ..] => *first != b'+' && text.len() <= 20 && text.parse::<u64>().is_ok(),
-    }
+    read_number(text.as_bytes()).is_some()
 }

@@ -1,8 +1,8 @@
-ghost use Rattle.std.specs.Prelude.{◌++◌, IsErr, MatchResult};
+ghost use Rattle.std.specs.Prelude.{◌≡◌, ◌++◌, IsErr, MatchResult};
 ghost use Rattle.reg_top.specs.Faults.{HasCause};
-ghost use Rattle.reg_top.specs.Lines.{line};
+ghost use Rattle.reg_requests.specs.Lines.{line};
 ghost use Rattle.reg_top.specs.Output.{TakesWhole, TakesPart};
-ghost use Rattle.reg_top.specs.FaultLines.{Tells, status_text, IsStop};
+ghost use Rattle.reg_top.specs.Ends.{OutputEnds};
 
 use crate::sink::{Failed, Sink};
 use crate::status::Status;
@@ -22,41 +22,41 @@ pub(crate) fn write_all<K: Sink>(sink: &mut K, bytes: &[u8]) -> Result<(), Faile
     Ok(())
 }
 
-/// Writes a line in two parts, as far as the sink takes it: a fault of the sink changes no status. Takes no memory.
-pub(crate) fn tell<K: Sink>(sink: &mut K, front: &[u8], rest: &[u8])
-    ensures { Tells (K.taken sink.old) (K.taken sink.new) (K.faults sink.old) (K.faults sink.new) (line (front.now ++ rest.now)) }
-{
-    let _ = write_line(sink, front, rest);
-}
-
-// The line of a status that tells no more than the name of its file.
-pub(crate) fn tell_status<K: Sink>(sink: &mut K, status: Status, name: &str)
-    ensures { IsStop status → Tells (K.taken sink.old) (K.taken sink.new) (K.faults sink.old) (K.faults sink.new) (line (status_text status name.now)) }
-{
-    match status {
-        Status::Words => tell(sink, b"fault 2 words", b""),
-        Status::Missing => tell(sink, b"fault 3 missing ", name.as_bytes()),
-        Status::Read => tell(sink, b"fault 4 read ", name.as_bytes()),
-        Status::Memory => tell(sink, b"fault 6 memory", b""),
-        Status::TooLong => tell(sink, b"fault 7 too long ", name.as_bytes()),
-        _ => {}
-    }
-}
-
-fn write_line<K: Sink>(sink: &mut K, front: &[u8], rest: &[u8]) -> Result<(), Failed>
+/// Writes the first bytes, and then the second. Takes no memory.
+pub(crate) fn write_two<K: Sink>(sink: &mut K, first: &[u8], second: &[u8]) -> Result<(), Failed>
     ensures takes { MatchResult result
-        (λ _. TakesWhole (K.taken sink.old) (K.taken sink.new) (line (front.now ++ rest.now)))
-        (λ _. TakesPart (K.taken sink.old) (K.taken sink.new) (line (front.now ++ rest.now))) }
+        (λ _. TakesWhole (K.taken sink.old) (K.taken sink.new) (first.now ++ second.now))
+        (λ _. TakesPart (K.taken sink.old) (K.taken sink.new) (first.now ++ second.now)) }
     ensures cause { HasCause (K.faults sink.old) (K.faults sink.new) (IsErr result) }
 {
-    if let Err(Failed) = write_all(sink, front) {
+    if let Err(Failed) = write_all(sink, first) {
         return Err(Failed);
     }
-    if let Err(Failed) = write_all(sink, rest) {
-        return Err(Failed);
-    }
-    if let Err(Failed) = write_all(sink, b"\n") {
+    if let Err(Failed) = write_all(sink, second) {
         return Err(Failed);
     }
     Ok(())
+}
+
+/// Writes an output, and answers how the command ended.
+pub(crate) fn write_output<K: Sink>(sink: &mut K, output: &[u8]) -> Status
+    ensures { OutputEnds (K.taken sink.old) (K.taken sink.new) (K.faults sink.old) (K.faults sink.new) output.now result }
+{
+    end_of(write_all(sink, output))
+}
+
+/// Writes an output of one line, and answers how the command ended.
+pub(crate) fn write_line<K: Sink>(sink: &mut K, text: &[u8]) -> Status
+    ensures { OutputEnds (K.taken sink.old) (K.taken sink.new) (K.faults sink.old) (K.faults sink.new) (line text.now) result }
+{
+    end_of(write_two(sink, text, b"\n"))
+}
+
+fn end_of(written: Result<(), Failed>) -> Status
+    ensures { MatchResult written (λ _. result ≡ Status.Done) (λ _. result ≡ Status.Write) }
+{
+    match written {
+        Ok(()) => Status::Done,
+        Err(Failed) => Status::Write,
+    }
 }

@@ -1,5 +1,5 @@
 use Rattle.std.proofs.Common.{◌≡◌, take}
-use Rattle.reg_top.specs.Requests.{calls_of}
+use Rattle.reg_requests.specs.Requests.{calls_of}
 use Rattle.reg_top.proofs.run.calls_of.Given as goal
 
 -- the calls of the items that the loop has passed

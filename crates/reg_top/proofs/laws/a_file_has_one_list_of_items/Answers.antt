@@ -1,5 +1,0 @@
-use Rattle.reg_top.proofs.CallsBack.{one_list}
-use Rattle.reg_top.proofs.laws.a_file_has_one_list_of_items.Goals as goal
-
-pub returns : goal.returns
-returns c = one_list

@@ -1,8 +1,0 @@
-use Rattle.std.proofs.Common.{◌≡◌, ◌∷◌, ◌++◌, take}
-use Rattle.std.specs.List.{flat_map}
-use Rattle.reg_top.specs.Lines.{hit_text}
-use Rattle.reg_top.proofs.print.print_hits.Given as goal
-
--- the hits that the loop has passed, with a space before each
-abbrev pub invariant-loop-hit : goal.invariant-loop-hit
-invariant-loop-hit l = l.out.items ≡ l.initial.out.items ++ flat_map (λ hit. 32 ∷ hit_text l.kind hit) (take l.hit-index l.hits)

@@ -1,0 +1,72 @@
+ghost use Rattle.std.specs.Prelude.{◌≡◌, ℕ, Option, List, Some, codes, slice_get, IfOk, IfErr, string_bytes};
+ghost use Rattle.serde_json.specs.Data.{Data};
+ghost use Rattle.serde_json.specs.Written.{compact_text};
+ghost use Rattle.iscc_text.specs.Explanations.{Explains};
+ghost use Rattle.reg_top.specs.Files.{Files};
+ghost use Rattle.reg_requests.specs.Lines.{line};
+ghost use Rattle.reg_top.specs.SideOutput.{IsExplanation};
+ghost use Rattle.reg_top.specs.Statuses.{status_number};
+ghost use Rattle.reg_top.specs.Words.Command.{Explain};
+ghost use Rattle.reg_top.specs.Ends.{Declines, Ends, IsOutcome};
+
+use crate::args::Args;
+use crate::fault_line::tell_status;
+use crate::refusal::Refusal;
+use crate::sink::Sink;
+use crate::status::Status;
+use crate::words::one_value;
+use crate::write::write_line;
+use iscc_code::Iscc;
+use iscc_header::NoMemory;
+use iscc_text::{explain, read_iscc};
+use std::alloc::{AllocError, Global};
+
+/// `explain TEXT`: writes the explanation of the code for which a text stands.
+pub(crate) fn explain_command<K: Sink>(alloc: Global, words: &Args, sink: &mut K) -> Status
+    requires { slice_get words.now 0 ≡ Some (codes "explain") }
+    ensures { (files : Option Files) (count : ℕ) → IsOutcome words.now files count count
+        (K.taken sink.old) (K.taken sink.new) (K.faults sink.old) (K.faults sink.new) (status_number result) }
+{
+    match one_value(words, "explain") {
+        None => {
+            tell_status(sink, Status::Words, "");
+            Status::Words
+        }
+        Some(text) => explain_text(alloc, text, sink),
+    }
+}
+
+fn explain_text<K: Sink>(alloc: Global, text: &str, sink: &mut K) -> Status
+    ensures { (files : Option Files) (count : ℕ) → Ends (Explain text.now) files count count
+        (K.taken sink.old) (K.taken sink.new) (K.faults sink.old) (K.faults sink.new) result }
+{
+    match explanation(alloc, text) {
+        Ok(tree) => write_line(sink, tree.as_bytes()),
+        Err(status) => {
+            tell_status(sink, status, "");
+            status
+        }
+    }
+}
+
+// The compact text of the tree that explains a code.
+fn explanation(alloc: Global, text: &str) -> Result<String, Status>
+    ensures made { IfOk result (λ tree. IsExplanation text.now (line (string_bytes tree))) }
+    ensures declines { IfErr result (Declines (Explain text.now)) }
+{
+    let iscc = match read_iscc(text.as_bytes()) {
+        Ok(iscc) => iscc,
+        Err(fault) => return Err(Status::Refused(Refusal::Text(fault))),
+    };
+    match tree_text(alloc, &iscc) {
+        Ok(tree) => Ok(tree),
+        Err(NoMemory) => Err(Status::Memory),
+    }
+}
+
+fn tree_text(alloc: Global, iscc: &Iscc) -> Result<String, NoMemory>
+    ensures { IfOk result (λ text. (tree : Data) × Explains iscc.now tree × (string_bytes text ≡ compact_text tree)) }
+{
+    let tree = explain(alloc, iscc)?;
+    Ok(tree.to_string(alloc)?)
+}

@@ -1,0 +1,22 @@
+use iscc_code::ComposeFault;
+use iscc_text::TextFault;
+
+/// Why a word that is to be composed stands for no unit.
+#[derive(Clone, Copy, Debug, PartialEq, Eq)]
+pub enum WordFault {
+    /// It stands for no code.
+    Text(TextFault),
+    /// It stands for an ISCC-CODE, which has several units.
+    NotUnit,
+}
+
+/// Why a command refuses what it is given.
+#[derive(Clone, Copy, Debug, PartialEq, Eq)]
+pub enum Refusal {
+    /// The text to be explained stands for no code.
+    Text(TextFault),
+    /// This word to be composed, counted from 0, is the first that stands for no unit.
+    Word { at: usize, why: WordFault },
+    /// The units have no composite.
+    Units(ComposeFault),
+}

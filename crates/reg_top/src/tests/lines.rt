@@ -1,0 +1,126 @@
+use super::*;
+
+// What stands between the line that names the session and the history.
+fn replies(alloc: Global, text: &str) -> Result<String, Fail> {
+    let (status, output) = run_text(alloc, text)?;
+    if status != 0 {
+        return Err("no output".into());
+    }
+    let Some(behind) = output.as_str().strip_prefix("replies 0 0\n") else {
+        return Err("no replies".into());
+    };
+    let Some((replies, _)) = behind.split_once("iscc-history 1\n") else {
+        return Err("no history".into());
+    };
+    Ok(replies.to_string(alloc)?)
+}
+
+#[test]
+fn a_refused_line_is_told_with_its_first_fault_and_makes_no_row(
+    rt: HostRuntime,
+) -> Result<(), Fail> {
+    let cases = [
+        ("find ISCC:AAAQAAAAAAAAAAAA", "line"),
+        ("near ISCC:AAAQAAAAAAAAAAAA", "line"),
+        ("declare", "line"),
+        ("declare ISCC:AAAQAAAAAAAAAAAA 1", "line"),
+        ("Declare ISCC:AAAQAAAAAAAAAAAA", "line"),
+        ("instance 00 00", "line"),
+        ("withdraw x", "line"),
+        ("\0", "line"),
+        ("\u{e9}", "line"),
+        ("declare #", "text"),
+        ("declare ISCC:AAAQAAAAAAAAAAAA=", "text"),
+        ("near IPFS:AAAQ x", "text"),
+        ("declare AAAAAAAAAA", "short"),
+        ("near AAAAAAAAAA 16", "short"),
+        ("near ISCC:AAAQAAAAAAAAAAAA x", "number"),
+        ("near ISCC:AAAQAAAAAAAAAAAA +1", "number"),
+        ("near ISCC:AAAQAAAAAAAAAAAA 18446744073709551616", "number"),
+        ("near ISCC:AAAQAAAAAAAAAAAA 000000000000000000015", "number"),
+        ("near ISCC:AAAQAAAAAAAAAAAA 18446744073709551615", "radius"),
+        ("near ISCC:AAAQAAAAAAAAAAAA 16", "radius"),
+        ("instance abc", "hex"),
+        ("instance 0g", "hex"),
+    ];
+    for (line, why) in cases {
+        let (status, output) = run_text(rt.alloc(), line)?;
+        assert_eq!(rt; status, 0);
+        let want = format!(in rt.alloc();
+            "replies 0 0\nbad {why}\niscc-history 1\nround 0 base 0 entries 4096 log 65536 callers 1\nend 0 live 0\n"
+        )?;
+        assert_eq!(rt; output.as_str(), want.as_str(), "{line}");
+    }
+    Ok(())
+}
+
+#[test]
+fn lines_without_words_and_comments_are_skipped(rt: HostRuntime) -> Result<(), Fail> {
+    let text =
+        "\n \t \n\r\n# declare ISCC:AAAQAAAAAAAAAAAA\n\t#\n \t declare \t\t ISCC:AAAQAAAAAAAAAAAA \r\n";
+    assert_eq!(rt; replies(rt.alloc(), text)?.as_str(), "id 0\n");
+    let (_, output) = run_text(rt.alloc(), "# nothing")?;
+    assert_eq!(rt;
+        output.as_str(),
+        "replies 0 0\niscc-history 1\nround 0 base 0 entries 4096 log 65536 callers 1\nend 0 live 0\n"
+    );
+    Ok(())
+}
+
+#[test]
+fn a_unit_is_declared_by_its_first_64_bits(rt: HostRuntime) -> Result<(), Fail> {
+    // META with 256 bits of zeros.
+    let text =
+        "declare AADQAAAAAAAAAAAAAAAAAAAAAAAAAAAAAAAAAAAAAAAAAAAAAAAAAAA\nnear aaaq-aaaa-aaaa-aaaa 015\n";
+    assert_eq!(rt;
+        replies(rt.alloc(), text)?.as_str(),
+        "id 0\nhits 1 0,0,ISCC:AAAQAAAAAAAAAAAA\n"
+    );
+    Ok(())
+}
+
+#[test]
+fn bodies_at_distance_15_are_found_at_radius_15_and_not_at_14(rt: HostRuntime) -> Result<(), Fail> {
+    let text = "declare ISCC:AAAQABYAB4AA6AAP
+declare ISCC:AAAQADYAB4AA6AAH
+near ISCC:AAAQAAAAAAAAAAAA 15
+near ISCC:AAAQAAAAAAAAAAAA 14
+";
+    let want = "id 0
+id 1
+hits 2 0,15,ISCC:AAAQABYAB4AA6AAP 1,15,ISCC:AAAQADYAB4AA6AAH
+hits 0
+";
+    assert_eq!(rt; replies(rt.alloc(), text)?.as_str(), want);
+    Ok(())
+}
+
+#[test]
+fn an_iscc_code_is_one_call_for_each_of_its_units(rt: HostRuntime) -> Result<(), Fail> {
+    let text = "declare ISCC:KACQAAAAAAAAAAAAAAAAAAAAAAAAAAAAAAAAAAAAACXRGSNZ6X42DJQ
+near ISCC:KACQAAAAAAAAAAAAAAAAAAAAAAAAAAAAAAAAAAAAACXRGSNZ6X42DJQ 0";
+    let want = "id 0
+id 1
+id 2
+id 3
+hits 1 0,0,ISCC:AAAQAAAAAAAAAAAA
+hits 1 1,0,ISCC:EAAQAAAAAAAAAAAA
+hits 1 2,0,ISCC:GAAQAAAAAAAAAAAA
+hits 1 3,0,ISCC:IAA26E2JXH27TING
+";
+    assert_eq!(rt; replies(rt.alloc(), text)?.as_str(), want);
+    Ok(())
+}
+
+#[test]
+fn an_instance_line_declares_the_code_of_its_bytes(rt: HostRuntime) -> Result<(), Fail> {
+    let text =
+        "instance 616263\nnear ISCC:IAAWIN5TVQ4EMUJT 0\ninstance\nnear ISCC:IAA26E2JXH27TING 0\n";
+    let want = "id 0
+hits 1 0,0,ISCC:IAAWIN5TVQ4EMUJT
+id 1
+hits 1 1,0,ISCC:IAA26E2JXH27TING
+";
+    assert_eq!(rt; replies(rt.alloc(), text)?.as_str(), want);
+    Ok(())
+}
