@@ -55,6 +55,40 @@ fn a_refused_line_is_told_with_its_first_fault_and_makes_no_row(
 }
 
 #[test]
+fn hostile_lines_get_their_replies_one_after_the_other(rt: HostRuntime) -> Result<(), Fail> {
+    let alloc = rt.alloc();
+    let mut text = String::new(alloc);
+    text.push_str("declare\tISCC:AAAQAAAAAAAAAAAA\r\n")?;
+    text.push_str("DECLARE ISCC:AAAQAAAAAAAAAAAA\n")?;
+    text.push_str("declare ISCC:AAAQAAAAAAAAAAAA ISCC:AAAQAAAAAAAAAAAB\n")?;
+    text.push_str("declare ISCC:\n")?;
+    text.push_str("declare iscc:iscc:AAAQAAAAAAAAAAAA\n")?;
+    text.push_str("declare ")?;
+    for _ in 0..100_000 {
+        text.push_str("AAAAAAAAAA")?;
+    }
+    text.push_str("\nnear ISCC:AAAQAAAAAAAAAAAA 00000000000000000015\n")?;
+    text.push_str("near ISCC:AAAQAAAAAAAAAAAA 000000000000000000015\n")?;
+    text.push_str("near AAAAAAAAAA 99\n")?;
+    text.push_str("count 1\n\0\ninstance 0G\n")?;
+    let want = "id 0
+bad line
+bad line
+bad text
+bad text
+bad text
+hits 1 0,0,ISCC:AAAQAAAAAAAAAAAA
+bad number
+bad short
+bad line
+bad line
+bad hex
+";
+    assert_eq!(rt; replies(alloc, text.as_str())?.as_str(), want);
+    Ok(())
+}
+
+#[test]
 fn lines_without_words_and_comments_are_skipped(rt: HostRuntime) -> Result<(), Fail> {
     let text =
         "\n \t \n\r\n# declare ISCC:AAAQAAAAAAAAAAAA\n\t#\n \t declare \t\t ISCC:AAAQAAAAAAAAAAAA \r\n";
