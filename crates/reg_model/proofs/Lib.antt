@@ -1,4 +1,6 @@
+pub mod Rising
 pub mod LiveSteps
+pub mod PlainSteps
 pub mod WorkedRows
 pub mod WorkedRounds
 pub mod RowSteps

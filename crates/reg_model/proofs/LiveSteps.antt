@@ -1,5 +1,8 @@
 -- What a further update does to the live declarations.
-use Rattle.std.proofs.Common.{◌≡◌, ℕ, ◌+◌, ◌<◌, ◌≤◌, ◌^◌, Bool, true, false, not, ◌||◌, cond, List, [], ◌∷◌, ◌++◌, length, filter, refl, sym, ◌∙◌, ap, append_assoc, append-nil, arith}
+use Rattle.std.proofs.Common.{◌≡◌, ◌⊎◌, inl, inr, ℕ, ◌+◌, ◌<◌, ◌≤◌, ◌^◌, Bool, true, false, not, ◌||◌, ◌&&◌, ◌==◌, cond, List, [], ◌∷◌, ◌++◌, length, filter, refl, sym, ◌∙◌, ap, subst, append_assoc, append-nil, arith}
+use Rattle.std.specs.List.{remove}
+use Rattle.std.proofs.lemmas.Bool.Decides.{nat_tests}
+use Rattle.std.proofs.lemmas.List.Edits.{length-remove}
 use Rattle.std.proofs.lemmas.Bool.{true≢false}
 use Rattle.std.proofs.lemmas.List.{length_push}
 use Rattle.std.proofs.lemmas.List.Elements.{filter-append, filter_agree}
@@ -10,9 +13,10 @@ use Rattle.reg_model.specs.declared.update.Update.{Update}
 use Rattle.reg_model.specs.declared.update.Update.TheVariants.{Decl, Wd}
 use Rattle.reg_model.specs.declared.update.Declared.{Declared}
 use Rattle.reg_model.specs.Limits.{Limits, IsInRange}
-use Rattle.reg_model.specs.Opening.{Opening, IsOpening}
+use Rattle.reg_model.specs.Opening.{Opening, IsOpening, IsRising}
 use Rattle.reg_model.specs.Live.{declared_from, declared, withdraws, is_withdrawn, live, is_declaration, withdrawals}
-use Rattle.reg_model.specs.Registry.{IsCurrent}
+use Rattle.reg_model.specs.Registry.{Registry, IsCurrent}
+use Rattle.reg_model.proofs.Rising.{Within, live_within, live_rising, live_below, has_id, without, IsAt, remove-at, at_inside, at_below}
 
 -- every element passes
 pub filter_all : {X : Type 0} (p : X → Bool) → ((x : X) → p x ≡ true) → (xs : List X) → filter p xs ≡ xs
@@ -94,4 +98,79 @@ current_declare limits opening log list withdrawn unit current log_room room = r
   counted = current.counted ∙ sym (withdrawals-declare log unit);
   below = λ id h. let earlier : is_withdrawn log id ≡ true = sym (is_withdrawn-declare log unit id) ∙ h in omega (arith, current.below id earlier, length_push log (Decl unit));
   balance = omega (arith, current.balance, length_push list (declaration (opening.base + length log) unit), withdrawals-declare log unit, sum_by_push (λ u. cond (is_declaration u) 1 0) log (Decl unit));
+}
+
+-- ---- a withdrawal
+
+declared_from-withdraw : (id : ℕ) (log : List Update) (other : ℕ) → declared_from id (log ++ Wd other ∷ []) ≡ declared_from id log
+declared_from-withdraw id [] other = refl
+declared_from-withdraw id (Decl unit ∷ log) other = ap (λ ds. declaration id unit ∷ ds) (declared_from-withdraw (id + 1) log other)
+declared_from-withdraw id (Wd first ∷ log) other = declared_from-withdraw (id + 1) log other
+
+-- a withdrawal is one of the given id, or of an earlier one
+is_withdrawn-withdraw : (log : List Update) (other id : ℕ) → is_withdrawn (log ++ Wd other ∷ []) id ≡ (is_withdrawn log id || (other == id))
+is_withdrawn-withdraw log other id = list_any-append (withdraws id) log (Wd other ∷ []) ∙ ap (λ b. is_withdrawn log id || b) (or-false (other == id))
+
+-- what passes both tests
+filter-filter : (p q both : Declared → Bool) → ((d : Declared) → both d ≡ (p d && q d)) → (ds : List Declared) → filter both ds ≡ filter q (filter p ds)
+filter-filter p q both agree [] = refl
+filter-filter p q both agree (d ∷ ds) =
+    let rest = filter-filter p q both agree ds in
+    rw (agree d) (elim (p d) as (λ b. cond (b && q d) (d ∷ filter both ds) (filter both ds) ≡ filter q (cond b (d ∷ filter p ds) (filter p ds)))
+    [ true ↦ ap (λ ds. cond (q d) (d ∷ ds) ds) rest | false ↦ rest ])
+
+both_kept : (earlier this : Bool) → not (earlier || this) ≡ (not earlier && not this)
+both_kept true this = refl
+both_kept false this = refl
+
+-- the others stay live
+live-withdraw : (opening : Opening) (log : List Update) (id : ℕ) → live opening (log ++ Wd id ∷ []) ≡ without id (live opening log)
+live-withdraw opening log id =
+    ap (λ ds. filter (λ (d : Declared). not (is_withdrawn (log ++ Wd id ∷ []) d.id)) (opening.list ++ ds)) (declared_from-withdraw opening.base log id)
+    ∙ filter-filter (λ (d : Declared). not (is_withdrawn log d.id)) (λ (d : Declared). not (has_id id d)) (λ (d : Declared). not (is_withdrawn (log ++ Wd id ∷ []) d.id))
+    (λ d. ap not (is_withdrawn-withdraw log id d.id) ∙ both_kept (is_withdrawn log d.id) (id == d.id) ∙ ap (λ b. not (is_withdrawn log d.id) && not b) (turned id d.id))
+    (declared opening log)
+  where
+    turned : (m n : ℕ) → (m == n) ≡ (n == m)
+    turned m n = grind (arith, nat_tests)
+
+-- the current list is by rising id
+pub current_rising : (r : Registry) (list : List Declared) (withdrawn : ℕ) → IsCurrent r list withdrawn → IsRising list
+current_rising r list withdrawn current = subst IsRising (sym current.kept) (live_rising r.opening r.log current.opening)
+
+pub current_within : (r : Registry) (list : List Declared) (withdrawn : ℕ) → IsCurrent r list withdrawn → Within 0 (r.opening.base + length r.log) list
+current_within r list withdrawn current = subst (Within 0 (r.opening.base + length r.log)) (sym current.kept) (live_within r.opening r.log current.opening)
+
+-- a registry after a withdrawal
+pub current_withdraw : (limits : Limits) (opening : Opening) (log : List Update) (list : List Declared) (withdrawn id place : ℕ)
+    → IsCurrent (record { limits = limits; opening = opening; log = log }) list withdrawn → length log < limits.log → IsAt id place list
+    → IsCurrent (record { limits = limits; opening = opening; log = log ++ Wd id ∷ [] }) (remove list place) (withdrawn + 1)
+current_withdraw limits opening log list withdrawn id place current log_room at =
+    let before : Registry = record { limits = limits; opening = opening; log = log } in
+    let within = current_within before list withdrawn current in
+    let shorter = length-remove list place (at_inside id place list at) in
+    let given : id < opening.base + length log = at_below id place 0 (opening.base + length log) list within at in
+    let one_more : withdrawals (log ++ Wd id ∷ []) ≡ withdrawals log + 1 = omega (arith, sum_by_push (λ u. cond (not (is_declaration u)) 1 0) log (Wd id)) in
+    record {
+      limits = current.limits;
+      opening = current.opening;
+      ids = current.ids;
+      within = omega (arith, length_push log (Wd id));
+      room = omega (arith, shorter, current.room);
+      kept = remove-at id place 0 (opening.base + length log) list within at ∙ ap (without id) current.kept ∙ sym (live-withdraw opening log id);
+      counted = omega (arith, current.counted, one_more);
+      below = λ other h. grind (arith, nat_tests, length_push log (Wd id), given, current.below other, or_cases (is_withdrawn log other) (id == other) (sym (is_withdrawn-withdraw log id other) ∙ h));
+      balance = omega (arith, current.balance, shorter, one_more, sum_by_push (λ u. cond (is_declaration u) 1 0) log (Wd id));
+    }
+  where
+    or_cases : (a b : Bool) → (a || b) ≡ true → (a ≡ true) ⊎ (b ≡ true)
+    or_cases true b h = inl refl
+    or_cases false b h = inr h
+
+-- what the next round begins with
+pub current_opening : (r : Registry) (list : List Declared) (withdrawn point : ℕ) → IsCurrent r list withdrawn → point ≡ r.opening.base + length r.log → IsOpening (record { base = point; list = list })
+current_opening r list withdrawn point current here = record {
+  base = omega (arith, here, current.ids, current.within);
+  rising = current_rising r list withdrawn current;
+  below = rw (here, current.kept) (live_below r.opening r.log current.opening);
 }

@@ -1,18 +1,18 @@
 -- The slow registry: what it keeps, and what one call does.
-use Rattle.std.specs.Prelude.{◌≡◌, ℕ, ◌+◌, ◌<◌, ◌≤◌, ◌^◌, true, ◌==◌, nat_lt, if◌then◌else◌, List, ◌++◌, length, Option, Some, None}
+use Rattle.std.specs.Prelude.{◌≡◌, ℕ, ◌+◌, ◌<◌, ◌≤◌, ◌^◌, true, ◌==◌, nat_lt, if◌then◌else◌, List, ◌++◌, length, Option, Some, None, is_none}
 use Rattle.std.specs.Option.{option_to_list}
 use Rattle.reg_model.specs.declared.update.Update.{Update}
 use Rattle.reg_model.specs.declared.update.Declared.{Declared}
 use Rattle.reg_model.specs.declared.call.Call.{Call}
 use Rattle.reg_model.specs.declared.reply.Answer.{Answer}
 use Rattle.reg_model.specs.declared.reply.Reply.{Reply}
-use Rattle.reg_model.specs.declared.reply.Reply.TheVariants.{Id, Full}
+use Rattle.reg_model.specs.declared.reply.Reply.TheVariants.{Id, Withdrawn, Absent, Full}
 use Rattle.reg_model.specs.declared.reply.FullCause.TheVariants.{Log, Entries}
 use Rattle.reg_model.specs.declared.start.StartFault.{StartFault}
 use Rattle.reg_model.specs.declared.start.StartFault.TheVariants.{TooSmall, IdsSpent}
 use Rattle.reg_model.specs.Limits.{Limits, IsInRange}
 use Rattle.reg_model.specs.Opening.{Opening, IsOpening}
-use Rattle.reg_model.specs.Live.{live, is_withdrawn, declarations, withdrawals}
+use Rattle.reg_model.specs.Live.{live, live_at, is_withdrawn, declarations, withdrawals}
 use Rattle.reg_model.specs.Replies.{Replies}
 use Rattle.reg_model.specs.Rows.{update_of}
 
@@ -35,6 +35,13 @@ declare_reply r =
     if length r.log == r.limits.log then Full Log
     else if length (live r.opening r.log) == r.limits.entries then Full (Entries (withdrawals r.log))
     else Id (r.opening.base + length r.log)
+
+-- what a withdrawal gets, where one caller at a time is served: an id that isn't live is told also where the log is full
+abbrev pub withdraw_reply : Registry → ℕ → Reply
+withdraw_reply r id =
+    if is_none (live_at r.opening r.log id) then Absent id
+    else if length r.log == r.limits.log then Full Log
+    else Withdrawn id
 
 -- why a round can't begin
 abbrev pub start_refusal : Limits → Opening → Option StartFault

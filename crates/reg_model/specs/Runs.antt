@@ -3,7 +3,7 @@ use Rattle.std.specs.Prelude.{◌+◌, ◌^◌, ◌≤◌, List, [], ◌∷◌, 
 use Rattle.reg_model.specs.declared.reply.Row.{Row}
 use Rattle.reg_model.specs.Limits.{Limits, IsInRange}
 use Rattle.reg_model.specs.Opening.{Opening, IsOpening}
-use Rattle.reg_model.specs.Live.{live}
+use Rattle.reg_model.specs.Live.{opening_after}
 use Rattle.reg_model.specs.Rows.{log_of, IsLawful}
 
 -- a round's sizes, and its rows in order
@@ -13,10 +13,7 @@ pub record RoundRows : Type 0 where
 
 -- what the next round begins with
 abbrev pub next_opening : Opening → List Row → Opening
-next_opening opening rows = record {
-  base = opening.base + length (log_of rows);
-  list = live opening (log_of rows);
-}
+next_opening opening rows = opening_after opening (log_of rows)
 
 -- what the last round leaves
 abbrev pub closing : Opening → List RoundRows → Opening

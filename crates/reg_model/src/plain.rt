@@ -1,7 +1,9 @@
-ghost use Rattle.std.specs.Prelude.{◌≡◌, ◌≤◌, ◌⊎◌, ◌<◌, [], ◌∷◌, ◌++◌, MatchResult, IfOk, Some, None, length, map, filter, vec_capacity, vec_len};
+ghost use Rattle.std.specs.Prelude.{◌≡◌, ◌≤◌, ◌⊎◌, ◌<◌, ◌+◌, [], ◌∷◌, ◌++◌, MatchResult, IfOk, IfSome, IfNone, IsSomeAnd, Some, None, length, map, filter, find, ◌==◌, slice_get, vec_capacity, vec_len};
 ghost use Rattle.reg_model.specs.declared.call.Call.{Call};
+ghost use Rattle.reg_model.specs.Live.{opening_after};
+ghost use Rattle.reg_model.specs.Opening.{IsRising};
 ghost use Rattle.reg_model.specs.Replies.{AreHits, hit_of, is_near};
-ghost use Rattle.reg_model.specs.Registry.{Serves, declare_reply, start_refusal};
+ghost use Rattle.reg_model.specs.Registry.{Serves, declare_reply, withdraw_reply, start_refusal};
 
 use crate::RADIUS_MOST;
 use crate::carried::Carried;
@@ -94,27 +96,63 @@ impl Plain {
         ensures serves { Serves self.old (Call.Declare unit) result self.new }
         ensures reply { result.reply ≡ declare_reply self.old }
     {
-        let point = self.base + self.log.len() as u64;
+        let id = self.point();
         if self.log.len() == self.sizes.log() as usize {
-            return Answer {
-                point,
-                reply: Reply::Full(FullCause::Log),
-            };
+            return self.answer(Reply::Full(FullCause::Log));
         }
         if self.live.len() == self.sizes.entries() as usize {
-            return Answer {
-                point,
-                reply: Reply::Full(FullCause::Entries {
-                    given: self.withdrawn,
-                }),
-            };
+            return self.answer(Reply::Full(FullCause::Entries {
+                given: self.withdrawn,
+            }));
         }
         let copy = unit;
-        push_within(&mut self.live, Declared { id: point, unit });
+        push_within(&mut self.live, Declared { id, unit });
         push_within(&mut self.log, Update::Decl(copy));
-        Answer {
-            point: point + 1,
-            reply: Reply::Id(point),
+        self.answer(Reply::Id(id))
+    }
+
+    /// Ends the live declaration with this id, or says that none has it, or that the log is full. Takes no memory.
+    pub fn withdraw(&mut self, id: u64) -> Answer
+        ensures serves { Serves self.old (Call.Withdraw id) result self.new }
+        ensures reply { result.reply ≡ withdraw_reply self.old id }
+    {
+        let Some(place) = place_of(&self.live, id) else {
+            return self.answer(Reply::Absent(id));
+        };
+        if self.log.len() == self.sizes.log() as usize {
+            return self.answer(Reply::Full(FullCause::Log));
+        }
+        let _ = self.live.remove(place);
+        push_within(&mut self.log, Update::Wd(id));
+        self.withdrawn += 1;
+        self.answer(Reply::Withdrawn(id))
+    }
+
+    /// The unit of the live declaration with this id, or that none has it. Takes no memory.
+    pub fn show(&self, id: u64) -> Answer
+        ensures { Serves self.now (Call.Show id) result self.now }
+    {
+        match place_of(&self.live, id) {
+            Some(place) => self.answer(Reply::Live(self.live[place].unit)),
+            None => self.answer(Reply::Absent(id)),
+        }
+    }
+
+    /// How many declarations are live. Takes no memory.
+    pub fn count(&self) -> Answer
+        ensures { Serves self.now Call.Count result self.now }
+    {
+        self.answer(Reply::Count(self.live.len() as u64))
+    }
+
+    /// Whether the registry has come to this point. Takes no memory.
+    pub fn after(&self, point: u64) -> Answer
+        ensures { Serves self.now (Call.After point) result self.now }
+    {
+        if point <= self.point() {
+            self.answer(Reply::Reached)
+        } else {
+            self.answer(Reply::Ahead)
         }
     }
 
@@ -125,11 +163,52 @@ impl Plain {
         ensures { IfOk result (λ answer. Serves self.now (Call.Near unit radius) answer self.now) }
     {
         let hits = near_hits(alloc, &self.live, unit, radius)?;
-        Ok(Answer {
-            point: self.base + self.log.len() as u64,
-            reply: Reply::Hits(hits),
-        })
+        Ok(self.answer(Reply::Hits(hits)))
     }
+
+    /// Lends the updates of the round, in order.
+    pub fn updates(&self) -> &[Update]
+        ensures { result.now ≡ self.now.log }
+    {
+        self.log.as_slice()
+    }
+
+    /// What the next round begins with: the base after the updates, and the live declarations.
+    pub fn carry(&self, alloc: Global) -> Result<Carried, NoMemory>
+        ensures { IfOk result (λ carried. carried ≡ opening_after self.now.opening self.now.log) }
+    {
+        let list = Vec::from_slice(alloc, &self.live)?;
+        Ok(Carried::of(self.point(), list))
+    }
+
+    // A reply at the end of the log.
+    fn answer(&self, reply: Reply) -> Answer
+        ensures reply { result.reply ≡ reply }
+        ensures point { result.point ≡ self.now.opening.base + length self.now.log }
+        ensures within { length self.now.log ≤ self.now.limits.log }
+    {
+        Answer {
+            point: self.point(),
+            reply,
+        }
+    }
+
+    // The base of the round and the number of its updates.
+    fn point(&self) -> u64
+        ensures value { result ≡ self.now.opening.base + length self.now.log }
+        ensures within { length self.now.log ≤ self.now.limits.log }
+    {
+        self.base + self.log.len() as u64
+    }
+}
+
+// Where the declaration with this id stands in a list by id.
+fn place_of(list: &[Declared], id: u64) -> Option<usize>
+    requires { IsRising list.now }
+    ensures found { IfSome result (λ place. IsSomeAnd (slice_get list.now place) (λ declared. declared.id ≡ id)) }
+    ensures none { IfNone result (find (λ declared. declared.id == id) list.now ≡ None) }
+{
+    list.binary_search_by_key(&id, |declared| declared.id).ok()
 }
 
 // Pushes where there is room, so that no memory is taken.

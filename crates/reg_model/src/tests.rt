@@ -19,25 +19,17 @@ fn plain(alloc: Global, entries: u32, log: u32) -> Result<Plain, Fail> {
     Ok(Plain::start(alloc, &sizes, &Carried::new(alloc, 0))?)
 }
 
+fn at(point: u64, reply: Reply) -> Answer {
+    Answer { point, reply }
+}
+
 #[test]
 fn equal_units_get_ids_of_their_own(rt: HostRuntime) -> Result<(), Fail> {
     let mut plain = plain(rt.alloc(), 4, 64)?;
     let first = plain.declare(meta(0)?);
     let second = plain.declare(meta(0)?);
-    assert_eq!(rt;
-        first,
-        Answer {
-            point: 1,
-            reply: Reply::Id(0)
-        }
-    );
-    assert_eq!(rt;
-        second,
-        Answer {
-            point: 2,
-            reply: Reply::Id(1)
-        }
-    );
+    assert_eq!(rt; first, at(1, Reply::Id(0)));
+    assert_eq!(rt; second, at(2, Reply::Id(1)));
     Ok(())
 }
 
@@ -66,13 +58,7 @@ fn hits_are_of_the_kind_in_range_and_by_body(rt: HostRuntime) -> Result<(), Fail
         body: 3,
         distance: 2,
     })?;
-    assert_eq!(rt;
-        answer,
-        Answer {
-            point: 5,
-            reply: Reply::Hits(want)
-        }
-    );
+    assert_eq!(rt; answer, at(5, Reply::Hits(want)));
     Ok(())
 }
 
@@ -80,22 +66,130 @@ fn hits_are_of_the_kind_in_range_and_by_body(rt: HostRuntime) -> Result<(), Fail
 fn the_log_is_full_before_the_entries_are(rt: HostRuntime) -> Result<(), Fail> {
     let mut both = plain(rt.alloc(), 1, 1)?;
     let _ = both.declare(meta(0)?);
-    assert_eq!(rt;
-        both.declare(meta(0)?),
-        Answer {
-            point: 1,
-            reply: Reply::Full(FullCause::Log)
-        }
-    );
+    assert_eq!(rt; both.declare(meta(0)?), at(1, Reply::Full(FullCause::Log)));
     let mut entries = plain(rt.alloc(), 1, 2)?;
     let _ = entries.declare(meta(0)?);
     assert_eq!(rt;
         entries.declare(meta(0)?),
-        Answer {
-            point: 1,
-            reply: Reply::Full(FullCause::Entries { given: 0 })
-        }
+        at(1, Reply::Full(FullCause::Entries { given: 0 }))
     );
+    Ok(())
+}
+
+#[test]
+fn a_withdrawn_declaration_is_gone_and_its_id_is_used_up(rt: HostRuntime) -> Result<(), Fail> {
+    let mut plain = plain(rt.alloc(), 2, 64)?;
+    let _ = plain.declare(meta(5)?);
+    let _ = plain.declare(meta(6)?);
+    assert_eq!(rt; plain.show(0), at(2, Reply::Live(meta(5)?)));
+    assert_eq!(rt; plain.withdraw(0), at(3, Reply::Withdrawn(0)));
+    assert_eq!(rt; plain.withdraw(0), at(3, Reply::Absent(0)));
+    assert_eq!(rt; plain.show(0), at(3, Reply::Absent(0)));
+    assert_eq!(rt; plain.show(1), at(3, Reply::Live(meta(6)?)));
+    assert_eq!(rt; plain.count(), at(3, Reply::Count(1)));
+    assert_eq!(rt; plain.declare(meta(5)?), at(4, Reply::Id(3)));
+    assert_eq!(rt; plain.show(2), at(4, Reply::Absent(2)));
+    let answer = plain.near(rt.alloc(), meta(5)?, 0)?;
+    let mut want = Hits::new(rt.alloc());
+    want.push(Hit {
+        id: 3,
+        body: 5,
+        distance: 0,
+    })?;
+    assert_eq!(rt; answer, at(4, Reply::Hits(want)));
+    Ok(())
+}
+
+#[test]
+fn each_withdrawal_gives_an_entry_back(rt: HostRuntime) -> Result<(), Fail> {
+    let mut plain = plain(rt.alloc(), 1, 64)?;
+    let _ = plain.declare(meta(0)?);
+    let _ = plain.withdraw(0);
+    assert_eq!(rt; plain.declare(meta(0)?), at(3, Reply::Id(2)));
+    assert_eq!(rt;
+        plain.declare(meta(0)?),
+        at(3, Reply::Full(FullCause::Entries { given: 1 }))
+    );
+    Ok(())
+}
+
+#[test]
+fn a_full_log_refuses_the_withdrawal_of_a_live_id_alone(rt: HostRuntime) -> Result<(), Fail> {
+    let mut plain = plain(rt.alloc(), 4, 1)?;
+    let _ = plain.declare(meta(0)?);
+    assert_eq!(rt; plain.withdraw(0), at(1, Reply::Full(FullCause::Log)));
+    assert_eq!(rt; plain.withdraw(1), at(1, Reply::Absent(1)));
+    assert_eq!(rt; plain.withdraw(u64::MAX), at(1, Reply::Absent(u64::MAX)));
+    assert_eq!(rt; plain.count(), at(1, Reply::Count(1)));
+    Ok(())
+}
+
+#[test]
+fn a_point_is_reached_with_its_update(rt: HostRuntime) -> Result<(), Fail> {
+    let mut plain = plain(rt.alloc(), 4, 64)?;
+    assert_eq!(rt; plain.after(0), at(0, Reply::Reached));
+    assert_eq!(rt; plain.after(1), at(0, Reply::Ahead));
+    let _ = plain.declare(meta(0)?);
+    assert_eq!(rt; plain.after(1), at(1, Reply::Reached));
+    assert_eq!(rt; plain.after(u64::MAX), at(1, Reply::Ahead));
+    Ok(())
+}
+
+#[test]
+fn the_next_round_begins_with_the_live_declarations(rt: HostRuntime) -> Result<(), Fail> {
+    let mut plain = plain(rt.alloc(), 4, 64)?;
+    let _ = plain.declare(meta(7)?);
+    let _ = plain.declare(content(8)?);
+    let _ = plain.withdraw(0);
+    let updates = [
+        Update::Decl(meta(7)?),
+        Update::Decl(content(8)?),
+        Update::Wd(0),
+    ];
+    assert_eq!(rt; plain.updates(), updates.as_slice());
+    let carried = plain.carry(rt.alloc())?;
+    let kept = Declared {
+        id: 1,
+        unit: content(8)?,
+    };
+    assert_eq!(rt; carried.base(), 3);
+    assert_eq!(rt; carried.list(), [kept].as_slice());
+    let sizes = Sizes::new(1, 64, 12, 1).ok_or("sizes")?;
+    let mut next = Plain::start(rt.alloc(), &sizes, &carried)?;
+    assert_eq!(rt; next.show(1), at(3, Reply::Live(content(8)?)));
+    assert_eq!(rt;
+        next.declare(meta(0)?),
+        at(3, Reply::Full(FullCause::Entries { given: 0 }))
+    );
+    assert_eq!(rt; next.withdraw(1), at(4, Reply::Withdrawn(1)));
+    assert_eq!(rt; next.declare(meta(0)?), at(5, Reply::Id(4)));
+    Ok(())
+}
+
+#[test]
+fn carried_declarations_are_pushed_by_id(rt: HostRuntime) -> Result<(), Fail> {
+    let mut carried = Carried::new(rt.alloc(), 9);
+    carried.push(Declared {
+        id: 2,
+        unit: meta(2)?,
+    })?;
+    carried.push(Declared {
+        id: 8,
+        unit: meta(8)?,
+    })?;
+    let sizes = Sizes::new(1, 64, 12, 1).ok_or("sizes")?;
+    assert_eq!(rt;
+        Plain::start(rt.alloc(), &sizes, &carried).err(),
+        Some(StartFault::TooSmall {
+            live: 2,
+            entries: 1
+        })
+    );
+    let sizes = Sizes::new(2, 64, 12, 1).ok_or("sizes")?;
+    let plain = Plain::start(rt.alloc(), &sizes, &carried)?;
+    assert_eq!(rt; plain.show(8), at(9, Reply::Live(meta(8)?)));
+    assert_eq!(rt; plain.show(5), at(9, Reply::Absent(5)));
+    assert_eq!(rt; plain.count(), at(9, Reply::Count(2)));
     Ok(())
 }
 
