@@ -1,5 +1,5 @@
 -- A line that asks for calls has at least five bytes.
-use Rattle.std.proofs.Common.{◌≡◌, ℕ, suc, ◌+◌, ◌-◌, ◌<◌, ◌≤◌, Bool, true, false, List, [], ◌∷◌, length, take, slice_index, Option, Some, None, Ok, refl, ap, arith, lit≤}
+use Rattle.std.proofs.Common.{◌≡◌, ℕ, suc, ◌-◌, ◌<◌, ◌≤◌, Bool, true, false, List, [], ◌∷◌, length, take, slice_index, Option, Some, None, Ok, refl, ap, arith, lit≤}
 use Rattle.std.specs.Prelude.{if◌then◌else◌, ◌==◌, All, sum_by, codes}
 use Rattle.std.specs.Str.{bytes_eq}
 use Rattle.std.proofs.lemmas.List.{length-take-le}
@@ -11,7 +11,7 @@ use Rattle.iscc_text.specs.Texts.{is_blank}
 use Rattle.reg_model.specs.declared.call.Call.{Call}
 use Rattle.reg_requests.specs.declared.items.Line.TheVariants as lines
 use Rattle.reg_requests.specs.Words.{words_of, line_words, without_return, onto_first, ends_word}
-use Rattle.reg_requests.specs.Requests.{Request, request_of, declare_request, near_request, instance_request, RequestMeans, ReadsLine}
+use Rattle.reg_requests.specs.Requests.{Request, Show, request_of, near_request, number_request, RequestMeans, ReadsLine}
 
 -- how many bytes words have
 abbrev bytes_of : List (List ℕ) → ℕ
@@ -65,28 +65,36 @@ returnless_fits line =
 command_bytes : (word command : List ℕ) → bytes_eq word command ≡ true → length word ≡ length command
 command_bytes word command h = ap length ((bytes_eq-Decides word command).0 h)
 
--- `near` has a word behind it
-near_bytes : (word : List ℕ) (words : List (List ℕ)) → length word ≡ 4 → All HasBytes words → (near_request words ≡ None → ⊥) → 5 ≤ bytes_of (word ∷ words)
-near_bytes word [] len some asks = absurd (asks refl)
-near_bytes word (text ∷ words) len some asks =
+-- a command of five bytes or more
+long : (word : List ℕ) (words : List (List ℕ)) (command : List ℕ) → 5 ≤ length command → bytes_eq word command ≡ true → 5 ≤ bytes_of (word ∷ words)
+long word words command enough is = omega (arith, sum_by-cons length word words, enough, command_bytes word command is)
+
+-- a command of four bytes that has a word behind it
+short : (word : List ℕ) (words : List (List ℕ)) (command : List ℕ) (request : List (List ℕ) → Option Request) → length command ≡ 4 → bytes_eq word command ≡ true
+    → All HasBytes words → request [] ≡ None → (request words ≡ None → ⊥) → 5 ≤ bytes_of (word ∷ words)
+short word [] command request len is some none asks = absurd (asks none)
+short word (text ∷ words) command request len is some none asks =
     let has = All-head HasBytes text words some in
-    omega (arith, len, has, sum_by-cons length word (text ∷ words), sum_by-cons length text words)
+    omega (arith, len, command_bytes word command is, has, sum_by-cons length word (text ∷ words), sum_by-cons length text words)
+
+-- the words are of this command, or of one behind it
+command_or : {goal : Type 0} {here behind : Option Request} (is : Bool) → ((if is then here else behind) ≡ None → ⊥) → (is ≡ true → (here ≡ None → ⊥) → goal)
+    → ((behind ≡ None → ⊥) → goal) → goal
+command_or true asks h k = h refl asks
+command_or false asks h k = k asks
 
 request_bytes : (words : List (List ℕ)) → All HasBytes words → (request_of words ≡ None → ⊥) → 5 ≤ bytes_of words
 request_bytes [] some asks = absurd (asks refl)
 request_bytes (word ∷ words) some asks =
-    let whole = sum_by-cons length word words in
     let behind = All-tail HasBytes word words some in
-    by_command word words whole behind (bytes_eq word (codes "declare")) (bytes_eq word (codes "near")) (bytes_eq word (codes "instance"))
-    (command_bytes word (codes "declare")) (command_bytes word (codes "near")) (command_bytes word (codes "instance")) asks
-  where
-    by_command : (word : List ℕ) (words : List (List ℕ)) → bytes_of (word ∷ words) ≡ length word + bytes_of words → All HasBytes words → (d n i : Bool)
-        → (d ≡ true → length word ≡ 7) → (n ≡ true → length word ≡ 4) → (i ≡ true → length word ≡ 8)
-        → ((if d then declare_request words else if n then near_request words else if i then instance_request words else None) ≡ None → ⊥) → 5 ≤ bytes_of (word ∷ words)
-    by_command word words whole behind true n i h k l asks = let len = h refl in omega (arith, whole, len)
-    by_command word words whole behind false true i h k l asks = near_bytes word words (k refl) behind asks
-    by_command word words whole behind false false true h k l asks = let len = l refl in omega (arith, whole, len)
-    by_command word words whole behind false false false h k l asks = absurd (asks refl)
+    command_or (bytes_eq word (codes "declare")) asks (λ is asks. long word words (codes "declare") (lit≤ tt) is)
+    (λ asks. command_or (bytes_eq word (codes "withdraw")) asks (λ is asks. long word words (codes "withdraw") (lit≤ tt) is)
+    (λ asks. command_or (bytes_eq word (codes "near")) asks (λ is asks. short word words (codes "near") near_request refl is behind refl asks)
+    (λ asks. command_or (bytes_eq word (codes "show")) asks (λ is asks. short word words (codes "show") (number_request Show) refl is behind refl asks)
+    (λ asks. command_or (bytes_eq word (codes "count")) asks (λ is asks. long word words (codes "count") (lit≤ tt) is)
+    (λ asks. command_or (bytes_eq word (codes "after")) asks (λ is asks. long word words (codes "after") (lit≤ tt) is)
+    (λ asks. command_or (bytes_eq word (codes "instance")) asks (λ is asks. long word words (codes "instance") (lit≤ tt) is)
+    (λ asks. absurd (asks refl))))))))
 
 -- words that ask for calls are a request
 is_request : (request : Option Request) (list : ArrayVec Call) → RequestMeans request (Ok list) → request ≡ None → ⊥

@@ -13,7 +13,7 @@ use Rattle.reg_requests.specs.declared.items.BadLine.{BadLine}
 use Rattle.reg_requests.specs.declared.items.BadLine.TheVariants as bad
 use Rattle.reg_requests.specs.declared.items.Line.{Line}
 use Rattle.reg_requests.specs.declared.items.Line.TheVariants as lines
-use Rattle.reg_requests.specs.Requests.{Request, Declare, Near, Instance, request_of, TextMeans, RadiusMeans, DigitsMean, RequestMeans, ReadsWords}
+use Rattle.reg_requests.specs.Requests.{Request, Declare, Withdraw, Near, Show, Count, After, Instance, request_of, TextMeans, NumberMeans, RadiusMeans, DigitsMean, NumberCallMeans, RequestMeans, ReadsWords}
 
 same_list : {X : Type 0} (a b : ArrayVec X) → a.items ≡ b.items → a ≡ b
 same_list a b e = ap (λ items. record { items = items }) e
@@ -36,16 +36,25 @@ one_text text (Err bad.Short) (Err bad.Short) h k = refl
 one_text text (Err bad.Short) (Err why) h k = absurd k
 one_text text (Err why) b h k = absurd h
 
+one_number : (word : List ℕ) (a b : Result ℕ BadLine) → NumberMeans word a → NumberMeans word b → a ≡ b
+one_number word (Ok a) (Ok b) h k = ap Ok (h.1 ∙ sym k.1)
+one_number word (Ok a) (Err bad.Number) h k = absurd (k h.0)
+one_number word (Ok a) (Err why) h k = absurd k
+one_number word (Err bad.Number) (Ok b) h k = absurd (h k.0)
+one_number word (Err bad.Number) (Err bad.Number) h k = refl
+one_number word (Err bad.Number) (Err why) h k = absurd k
+one_number word (Err why) b h k = absurd h
+
 one_radius : (number : List ℕ) (a b : Result ℕ BadLine) → RadiusMeans number a → RadiusMeans number b → a ≡ b
-one_radius number (Ok a) (Ok b) h k = ap Ok (h.1 ∙ sym k.1)
-one_radius number (Ok a) (Err bad.Number) h k = absurd (k h.0)
-one_radius number (Ok a) (Err bad.Radius) h k = absurd (omega (arith, h.1, h.2, k.1))
+one_radius number (Ok a) (Ok b) h k = ap Ok (h.0.1 ∙ sym k.0.1)
+one_radius number (Ok a) (Err bad.Number) h k = absurd (k h.0.0)
+one_radius number (Ok a) (Err bad.Radius) h k = absurd (omega (arith, h.0.1, h.1, k.1))
 one_radius number (Ok a) (Err why) h k = absurd k
-one_radius number (Err bad.Number) (Ok b) h k = absurd (h k.0)
+one_radius number (Err bad.Number) (Ok b) h k = absurd (h k.0.0)
 one_radius number (Err bad.Number) (Err bad.Number) h k = refl
 one_radius number (Err bad.Number) (Err bad.Radius) h k = absurd (h k.0)
 one_radius number (Err bad.Number) (Err why) h k = absurd k
-one_radius number (Err bad.Radius) (Ok b) h k = absurd (omega (arith, k.1, k.2, h.1))
+one_radius number (Err bad.Radius) (Ok b) h k = absurd (omega (arith, k.0.1, k.1, h.1))
 one_radius number (Err bad.Radius) (Err bad.Number) h k = absurd (k h.0)
 one_radius number (Err bad.Radius) (Err bad.Radius) h k = refl
 one_radius number (Err bad.Radius) (Err why) h k = absurd k
@@ -79,6 +88,14 @@ same_err X why other e = cc e
 never_both : {X : Type 0} (x : X) (why : BadLine) → taken x ≡ refused X why → ⊥
 never_both x why e = cc e
 
+one_number_call : (call : ℕ → Call) (word : List ℕ) (a b : Result (ArrayVec Call) BadLine) → NumberCallMeans call word a → NumberCallMeans call word b → a ≡ b
+one_number_call call word (Ok a) (Ok b) h k =
+    let same = same_ok h.0 k.0 (one_number word (Ok h.0) (Ok k.0) h.1 k.1) in
+    ap Ok (same_list a b (h.2 ∙ ap (λ number. call number ∷ []) same ∙ sym k.2))
+one_number_call call word (Ok a) (Err why) h k = absurd (never_both h.0 why (one_number word (Ok h.0) (Err why) h.1 k))
+one_number_call call word (Err why) (Ok b) h k = absurd (never_both k.0 why (one_number word (Ok k.0) (Err why) k.1 h))
+one_number_call call word (Err why) (Err other) h k = ap Err (same_err ℕ why other (one_number word (Err why) (Err other) h k))
+
 one_answer : (request : Option Request) (a b : Result (ArrayVec Call) BadLine) → RequestMeans request a → RequestMeans request b → a ≡ b
 one_answer None a b h k = h ∙ sym k
 one_answer (Some (Declare text)) (Ok a) (Ok b) h k =
@@ -87,6 +104,7 @@ one_answer (Some (Declare text)) (Ok a) (Ok b) h k =
 one_answer (Some (Declare text)) (Ok a) (Err why) h k = absurd (never_both h.0 why (one_text text (Ok h.0) (Err why) h.1 k))
 one_answer (Some (Declare text)) (Err why) (Ok b) h k = absurd (never_both k.0 why (one_text text (Ok k.0) (Err why) k.1 h))
 one_answer (Some (Declare text)) (Err why) (Err other) h k = ap Err (same_err (ArrayVec Unit64) why other (one_text text (Err why) (Err other) h k))
+one_answer (Some (Withdraw id)) a b h k = one_number_call calls.Withdraw id a b h k
 one_answer (Some (Near text number)) (Ok a) (Ok b) h k =
     let units = same_ok h.0 k.0 (one_text text (Ok h.0) (Ok k.0) h.2 k.2) in
     let radius = same_ok h.1 k.1 (one_radius number (Ok h.1) (Ok k.1) h.3 k.3) in
@@ -99,6 +117,11 @@ one_answer (Some (Near text number)) (Err why) (Err other) (inl h) (inl k) = ap 
 one_answer (Some (Near text number)) (Err why) (Err other) (inl h) (inr k) = absurd (never_both k.0 why (one_text text (Ok k.0) (Err why) k.1 h))
 one_answer (Some (Near text number)) (Err why) (Err other) (inr h) (inl k) = absurd (never_both h.0 other (one_text text (Ok h.0) (Err other) h.1 k))
 one_answer (Some (Near text number)) (Err why) (Err other) (inr h) (inr k) = ap Err (same_err ℕ why other (one_radius number (Err why) (Err other) h.2 k.2))
+one_answer (Some (Show id)) a b h k = one_number_call calls.Show id a b h k
+one_answer (Some Count) (Ok a) (Ok b) h k = ap Ok (same_list a b (h ∙ sym k))
+one_answer (Some Count) (Ok a) (Err why) h k = absurd k
+one_answer (Some Count) (Err why) b h k = absurd h
+one_answer (Some (After point)) a b h k = one_number_call calls.After point a b h k
 one_answer (Some (Instance digits)) (Ok a) (Ok b) h k =
     let same = same_ok h.0 k.0 (one_unit digits (Ok h.0) (Ok k.0) h.1 k.1) in
     ap Ok (same_list a b (h.2 ∙ ap (λ unit. calls.Declare unit ∷ []) same ∙ sym k.2))

@@ -12,7 +12,7 @@ use Rattle.reg_requests.specs.declared.items.BadLine.{BadLine}
 use Rattle.reg_requests.specs.declared.items.BadLine.TheVariants as bad
 use Rattle.reg_requests.specs.declared.items.Line.{Line}
 use Rattle.reg_requests.specs.declared.items.Line.TheVariants as lines
-use Rattle.reg_requests.specs.Requests.{Request, Declare, Near, Instance, request_of, is_skipped, TextMeans, RequestMeans, ReadsWords}
+use Rattle.reg_requests.specs.Requests.{Request, Declare, Withdraw, Near, Show, Count, After, Instance, request_of, is_skipped, TextMeans, RequestMeans, ReadsWords}
 use Rattle.reg_requests.specs.TakenCodes.{code_text, HasCodeText, unit_in, AsksForCode, AreCallsOf, TakesCode}
 
 -- the units that calls were made of
@@ -42,12 +42,20 @@ refused_why : (request : Request) (text : List ℕ) (why : BadLine) → code_tex
 refused_why (Declare given) text why e none means = text_fault given why (subst NoCode (let same : text ≡ given = cc in same) none) means
 refused_why (Near given number) text why e none (inl means) = text_fault given why (subst NoCode (let same : text ≡ given = cc in same) none) means
 refused_why (Near given number) text why e none (inr means) = absurd (no_code given means.0 (subst NoCode (let same : text ≡ given = cc in same) none) means.1)
+refused_why (Withdraw id) text why e none means = absurd (cc)
+refused_why (Show id) text why e none means = absurd (cc)
+refused_why Count text why e none means = absurd (cc)
+refused_why (After point) text why e none means = absurd (cc)
 refused_why (Instance digits) text why e none means = absurd (cc)
 
 stands_for_none : (request : Request) (text : List ℕ) → code_text request ≡ Some text → RequestMeans (Some request) (Err bad.Text) → NoCode text
 stands_for_none (Declare given) text e means = subst NoCode (let same : given ≡ text = cc in same) means
 stands_for_none (Near given number) text e (inl means) = subst NoCode (let same : given ≡ text = cc in same) means
 stands_for_none (Near given number) text e (inr means) = absurd means.2
+stands_for_none (Withdraw id) text e means = absurd (cc)
+stands_for_none (Show id) text e means = absurd (cc)
+stands_for_none Count text e means = absurd (cc)
+stands_for_none (After point) text e means = absurd (cc)
 stands_for_none (Instance digits) text e means = absurd (cc)
 
 -- the calls of the request
@@ -60,6 +68,10 @@ calls_of_code (Near given number) text list e means =
     let same : given ≡ text = cc in
     let code = means.2 in
     (code.0, subst (λ t. StandsFor t code.0) same code.1, code.2 ∙ ap Some (sym (asked_units means.1 means.0.items) ∙ ap (filter_map unit_in) (sym means.4)))
+calls_of_code (Withdraw id) text list e means = absurd (cc)
+calls_of_code (Show id) text list e means = absurd (cc)
+calls_of_code Count text list e means = absurd (cc)
+calls_of_code (After point) text list e means = absurd (cc)
 calls_of_code (Instance digits) text list e means = absurd (cc)
 
 -- a request isn't skipped
@@ -68,7 +80,7 @@ kept_request [] request e skip = cc
 kept_request ([] ∷ words) request e skip = false≢true skip
 kept_request ((first ∷ word) ∷ words) request e skip =
     let comment : first ≡ 35 = eqb-true first 35 skip in
-    let none : request_of ((first ∷ word) ∷ words) ≡ None = rw comment refl in
+    let none : request_of ((first ∷ word) ∷ words) ≡ None = rw comment (refl {a = None}) in
     let both : Some request ≡ None = sym e ∙ none in
     cc
 

@@ -21,7 +21,7 @@ use Rattle.reg_requests.specs.declared.items.Item.TheVariants as items
 use Rattle.reg_requests.specs.Words.{lines_of, line_words}
 use Rattle.reg_requests.specs.Numbers.{IsNumber}
 use Rattle.reg_requests.specs.Lines.{line, bad_text}
-use Rattle.reg_requests.specs.Requests.{Declare, Near, Instance, request_of, is_skipped, AreItems}
+use Rattle.reg_requests.specs.Requests.{Declare, Withdraw, Near, Show, Count, After, Instance, request_of, is_skipped, AreItems}
 
 -- ---- lines and words
 
@@ -66,6 +66,21 @@ hashed = refl
 
 hashed_nothing : request_of (codes "instance" ∷ []) ≡ Some (Instance [])
 hashed_nothing = refl
+
+withdrawn : request_of (codes "withdraw" ∷ codes "7" ∷ []) ≡ Some (Withdraw (codes "7"))
+withdrawn = refl
+
+shown : request_of (codes "show" ∷ codes "007" ∷ []) ≡ Some (Show (codes "007"))
+shown = refl
+
+counted : request_of (codes "count" ∷ []) ≡ Some Count
+counted = refl
+
+reached : request_of (codes "after" ∷ codes "x" ∷ []) ≡ Some (After (codes "x"))
+reached = refl
+
+counted_with_word : request_of (codes "count" ∷ codes "1" ∷ []) ≡ None
+counted_with_word = refl
 
 in_capitals : request_of (codes "DECLARE" ∷ codes "M0" ∷ []) ≡ None
 in_capitals = refl
@@ -167,7 +182,7 @@ file_items = (
     (
       (refl, (record { items = unit 1 ∷ [] }, (isccs.Unit (meta 1), stands_1, units_1), refl)),
       (
-        (refl, (record { items = unit 0 ∷ [] }, 1, (isccs.Unit (meta 0), stands_0, units_0), (number_1, refl, lit≤ tt), refl)),
+        (refl, (record { items = unit 0 ∷ [] }, 1, (isccs.Unit (meta 0), stands_0, units_0), ((number_1, refl), lit≤ tt), refl)),
         tt,
       ),
     ),

@@ -1,14 +1,21 @@
 -- What the parts of the reading tell each other.
-use Rattle.std.specs.Prelude.{◌≡◌, ◌≤◌, ℕ, List, ◌++◌, length, All}
+use Rattle.std.specs.Prelude.{◌≡◌, ◌≤◌, ℕ, List, [], ◌∷◌, ◌++◌, length, All, Result, Err}
 use Rattle.arrayvec.specs.ArrayVec.{ArrayVec}
 use Rattle.reg_model.specs.declared.call.Call.{Call}
+use Rattle.reg_requests.specs.declared.items.BadLine.{BadLine}
+use Rattle.reg_requests.specs.declared.items.BadLine.TheVariants as bad
 use Rattle.reg_requests.specs.declared.items.Line.{Line}
 use Rattle.reg_requests.specs.declared.items.Item.{Item}
-use Rattle.reg_requests.specs.Requests.{ReadsLine, IsRequest, items_of, calls_of}
+use Rattle.reg_requests.specs.Requests.{NumberMeans, ReadsLine, IsRequest, items_of, calls_of}
 
 -- calls that a line may ask for, and no more than a code has units
 abbrev pub AreRequests : ArrayVec Call → Type 0
 AreRequests list = All IsRequest list.items × (length list.items ≤ 5)
+
+-- the number that the only word stands for, or why the words are refused
+abbrev pub OnlyNumberMeans : List (List ℕ) → Result ℕ BadLine → Type 0
+OnlyNumberMeans (word ∷ []) answer = NumberMeans word answer
+OnlyNumberMeans words answer = answer ≡ Err bad.Line
 
 -- a line adds its items to a list
 pub record AddsLine (line : List ℕ) (old new : List Item) : Type 0 where

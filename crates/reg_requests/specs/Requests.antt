@@ -1,5 +1,5 @@
 -- What the lines of a request file ask for.
-use Rattle.std.specs.Prelude.{◌≡◌, ℕ, ◌<◌, ◌≤◌, ◌==◌, if◌then◌else◌, Bool, true, false, List, [], ◌∷◌, map, codes, ◌⊎◌, Option, Some, None, Result, Ok, Err}
+use Rattle.std.specs.Prelude.{◌≡◌, ℕ, ◌<◌, ◌≤◌, ◌^◌, ◌==◌, if◌then◌else◌, Bool, true, false, List, [], ◌∷◌, map, codes, ◌⊎◌, Option, Some, None, Result, Ok, Err}
 use Rattle.std.specs.List.{AllZip, filter_map, flat_map}
 use Rattle.std.specs.Str.{bytes_eq}
 use Rattle.std.specs.Str.Parse.{digits_value}
@@ -26,7 +26,11 @@ use Rattle.reg_requests.specs.Words.{lines_of, line_words}
 -- a command with the words behind it
 pub data Request : Type 0 where
   Declare : List ℕ → Request
+  Withdraw : List ℕ → Request
   Near : List ℕ → List ℕ → Request
+  Show : List ℕ → Request
+  Count : Request
+  After : List ℕ → Request
   Instance : List ℕ → Request
 
 abbrev pub declare_request : List (List ℕ) → Option Request
@@ -36,6 +40,15 @@ declare_request words = None
 abbrev pub near_request : List (List ℕ) → Option Request
 near_request (text ∷ number ∷ []) = Some (Near text number)
 near_request words = None
+
+-- a request that takes one number
+abbrev pub number_request : (List ℕ → Request) → List (List ℕ) → Option Request
+number_request request (number ∷ []) = Some (request number)
+number_request request words = None
+
+abbrev pub count_request : List (List ℕ) → Option Request
+count_request [] = Some Count
+count_request words = None
 
 -- without digits it is of no bytes
 abbrev pub instance_request : List (List ℕ) → Option Request
@@ -48,7 +61,11 @@ abbrev pub request_of : List (List ℕ) → Option Request
 request_of [] = None
 request_of (command ∷ words) =
     if bytes_eq command (codes "declare") then declare_request words
+    else if bytes_eq command (codes "withdraw") then number_request Withdraw words
     else if bytes_eq command (codes "near") then near_request words
+    else if bytes_eq command (codes "show") then number_request Show words
+    else if bytes_eq command (codes "count") then count_request words
+    else if bytes_eq command (codes "after") then number_request After words
     else if bytes_eq command (codes "instance") then instance_request words
     else None
 
@@ -65,10 +82,16 @@ TextMeans text (Err bad.Text) = (iscc : Iscc) → StandsFor text iscc → ⊥
 TextMeans text (Err bad.Short) = (iscc : Iscc) × StandsFor text iscc × (units_of iscc ≡ None)
 TextMeans text (Err why) = ⊥
 
+-- the number that a word stands for, or why it is refused
+abbrev pub NumberMeans : List ℕ → Result ℕ BadLine → Type 0
+NumberMeans word (Ok number) = IsNumber word × (number ≡ digits_value 10 word)
+NumberMeans word (Err bad.Number) = IsNumber word → ⊥
+NumberMeans word (Err why) = ⊥
+
 -- the radius that a number stands for, or why it is refused
 abbrev pub RadiusMeans : List ℕ → Result ℕ BadLine → Type 0
-RadiusMeans number (Ok radius) = IsNumber number × (radius ≡ digits_value 10 number) × (radius ≤ RADIUS_MOST)
-RadiusMeans number (Err bad.Number) = IsNumber number → ⊥
+RadiusMeans number (Ok radius) = NumberMeans number (Ok radius) × (radius ≤ RADIUS_MOST)
+RadiusMeans number (Err bad.Number) = NumberMeans number (Err bad.Number)
 RadiusMeans number (Err bad.Radius) = IsNumber number × (RADIUS_MOST < digits_value 10 number)
 RadiusMeans number (Err why) = ⊥
 
@@ -78,13 +101,23 @@ DigitsMean digits (Ok unit) = (bytes : List ℕ) × (decode_of digits ≡ Ok byt
 DigitsMean digits (Err bad.Hex) = (bytes : List ℕ) → decode_of digits ≡ Ok bytes → ⊥
 DigitsMean digits (Err why) = ⊥
 
+-- the one call with the number that a word stands for, or why the word is refused
+abbrev pub NumberCallMeans : (ℕ → Call) → List ℕ → Result (ArrayVec Call) BadLine → Type 0
+NumberCallMeans call word (Ok list) = (number : ℕ) × NumberMeans word (Ok number) × (list.items ≡ call number ∷ [])
+NumberCallMeans call word (Err why) = NumberMeans word (Err why)
+
 -- The calls that a request asks for, or the first reason to refuse it. Words that are no request are a bad line.
 abbrev pub RequestMeans : Option Request → Result (ArrayVec Call) BadLine → Type 0
 RequestMeans None answer = answer ≡ Err bad.Line
 RequestMeans (Some (Declare text)) (Ok list) = (units : ArrayVec Unit64) × TextMeans text (Ok units) × (list.items ≡ map calls.Declare units.items)
 RequestMeans (Some (Declare text)) (Err why) = TextMeans text (Err why)
+RequestMeans (Some (Withdraw id)) answer = NumberCallMeans calls.Withdraw id answer
 RequestMeans (Some (Near text number)) (Ok list) = (units : ArrayVec Unit64) × (radius : ℕ) × TextMeans text (Ok units) × RadiusMeans number (Ok radius) × (list.items ≡ map (λ unit. calls.Near unit radius) units.items)
 RequestMeans (Some (Near text number)) (Err why) = TextMeans text (Err why) ⊎ ((units : ArrayVec Unit64) × TextMeans text (Ok units) × RadiusMeans number (Err why))
+RequestMeans (Some (Show id)) answer = NumberCallMeans calls.Show id answer
+RequestMeans (Some Count) (Ok list) = list.items ≡ calls.Count ∷ []
+RequestMeans (Some Count) (Err why) = ⊥
+RequestMeans (Some (After point)) answer = NumberCallMeans calls.After point answer
 RequestMeans (Some (Instance digits)) (Ok list) = (unit : Unit64) × DigitsMean digits (Ok unit) × (list.items ≡ calls.Declare unit ∷ [])
 RequestMeans (Some (Instance digits)) (Err why) = DigitsMean digits (Err why)
 
@@ -111,8 +144,11 @@ AreItems file list = (read : List Line) × AllZip ReadsLine (lines_of file) read
 -- the calls that a line may ask for
 abbrev pub IsRequest : Call → Type 0
 IsRequest (calls.Declare unit) = IsUnit unit
+IsRequest (calls.Withdraw id) = id < 2 ^ 64
 IsRequest (calls.Near unit radius) = IsUnit unit × (radius ≤ RADIUS_MOST)
-IsRequest call = ⊥
+IsRequest (calls.Show id) = id < 2 ^ 64
+IsRequest calls.Count = Unit {0}
+IsRequest (calls.After point) = point < 2 ^ 64
 
 abbrev pub call_in : Item → Option Call
 call_in (items.Call call) = Some call

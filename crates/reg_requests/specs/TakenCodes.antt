@@ -10,12 +10,16 @@ use Rattle.reg_model.specs.declared.call.Call.TheVariants as calls
 use Rattle.reg_requests.specs.declared.items.BadLine.TheVariants as bad
 use Rattle.reg_requests.specs.declared.items.Line.{Line}
 use Rattle.reg_requests.specs.declared.items.Line.TheVariants as lines
-use Rattle.reg_requests.specs.Requests.{Request, Declare, Near, Instance, request_of}
+use Rattle.reg_requests.specs.Requests.{Request, Declare, Withdraw, Near, Show, Count, After, Instance, request_of}
 
 -- the text of a code that a request has
 abbrev pub code_text : Request → Option (List ℕ)
 code_text (Declare text) = Some text
+code_text (Withdraw id) = None
 code_text (Near text number) = Some text
+code_text (Show id) = None
+code_text Count = None
+code_text (After point) = None
 code_text (Instance digits) = None
 
 -- the words are a `declare` or a `near` with this text

@@ -5,8 +5,8 @@ ghost use Rattle.reg_model.specs.declared.call.Call.{Call as ACall};
 ghost use Rattle.reg_model.specs.declared.call.Call.TheVariants as calls;
 ghost use Rattle.reg_requests.specs.declared.items.BadLine.{BadLine as ABadLine};
 ghost use Rattle.reg_requests.specs.Words.{words_of, line_words};
-ghost use Rattle.reg_requests.specs.Reading.{AreRequests};
-ghost use Rattle.reg_requests.specs.Requests.{Instance, request_of, declare_request, near_request, instance_request, is_skipped, RequestMeans, RadiusMeans, ReadsWords, ReadsLine, IsRequest};
+ghost use Rattle.reg_requests.specs.Reading.{AreRequests, OnlyNumberMeans};
+ghost use Rattle.reg_requests.specs.Requests.{Withdraw, Show, After, Instance, request_of, declare_request, near_request, number_request, count_request, instance_request, is_skipped, RequestMeans, NumberMeans, RadiusMeans, ReadsWords, ReadsLine, IsRequest};
 
 use crate::code::read_units;
 use crate::digits::read_digits;
@@ -65,8 +65,20 @@ fn read_command(command: &[u8], rest: &[u8]) -> Result<Calls, BadLine>
     if command == b"declare".as_slice() {
         return read_declare(rest);
     }
+    if command == b"withdraw".as_slice() {
+        return read_withdraw(rest);
+    }
     if command == b"near".as_slice() {
         return read_near(rest);
+    }
+    if command == b"show".as_slice() {
+        return read_show(rest);
+    }
+    if command == b"count".as_slice() {
+        return read_count(rest);
+    }
+    if command == b"after".as_slice() {
+        return read_after(rest);
     }
     if command == b"instance".as_slice() {
         return read_instance(rest);
@@ -84,6 +96,13 @@ fn read_declare(rest: &[u8]) -> Result<Calls, BadLine>
     Ok(declare_calls(read_units(text)?.as_slice()))
 }
 
+fn read_withdraw(rest: &[u8]) -> Result<Calls, BadLine>
+    ensures means { RequestMeans (number_request Withdraw (words_of rest.now)) result }
+    ensures requests { IfOk result AreRequests }
+{
+    Ok(one_call(Call::Withdraw(only_number(rest)?)))
+}
+
 fn read_near(rest: &[u8]) -> Result<Calls, BadLine>
     ensures means { RequestMeans (near_request (words_of rest.now)) result }
     ensures requests { IfOk result AreRequests }
@@ -96,6 +115,30 @@ fn read_near(rest: &[u8]) -> Result<Calls, BadLine>
     Ok(near_calls(units.as_slice(), radius))
 }
 
+fn read_show(rest: &[u8]) -> Result<Calls, BadLine>
+    ensures means { RequestMeans (number_request Show (words_of rest.now)) result }
+    ensures requests { IfOk result AreRequests }
+{
+    Ok(one_call(Call::Show(only_number(rest)?)))
+}
+
+fn read_count(rest: &[u8]) -> Result<Calls, BadLine>
+    ensures means { RequestMeans (count_request (words_of rest.now)) result }
+    ensures requests { IfOk result AreRequests }
+{
+    if next_word(rest).is_some() {
+        return Err(BadLine::Line);
+    }
+    Ok(one_call(Call::Count))
+}
+
+fn read_after(rest: &[u8]) -> Result<Calls, BadLine>
+    ensures means { RequestMeans (number_request After (words_of rest.now)) result }
+    ensures requests { IfOk result AreRequests }
+{
+    Ok(one_call(Call::After(only_number(rest)?)))
+}
+
 fn read_instance(rest: &[u8]) -> Result<Calls, BadLine>
     ensures means { RequestMeans (instance_request (words_of rest.now)) result }
     ensures requests { IfOk result AreRequests }
@@ -103,8 +146,7 @@ fn read_instance(rest: &[u8]) -> Result<Calls, BadLine>
     let Some(digits) = word_or_none(rest) else {
         return Err(BadLine::Line);
     };
-    let unit = read_digits(digits)?;
-    Ok(declare_calls(&[unit]))
+    Ok(one_call(Call::Declare(read_digits(digits)?)))
 }
 
 // The only word of a text, or an empty one where it has none.
@@ -118,16 +160,39 @@ fn word_or_none(text: &[u8]) -> Option<&[u8]>
     }
 }
 
+// The number that the only word of a text stands for.
+fn only_number(text: &[u8]) -> Result<u64, BadLine>
+    ensures { OnlyNumberMeans (words_of text.now) result }
+{
+    match only_word(text) {
+        None => Err(BadLine::Line),
+        Some(word) => number_of(word),
+    }
+}
+
+fn number_of(word: &[u8]) -> Result<u64, BadLine>
+    ensures { NumberMeans word.now result }
+{
+    read_number(word).ok_or(BadLine::Number)
+}
+
 fn read_radius(number: &[u8]) -> Result<u32, BadLine>
     ensures { RadiusMeans number.now result }
 {
-    let Some(radius) = read_number(number) else {
-        return Err(BadLine::Number);
-    };
+    let radius = number_of(number)?;
     if radius > RADIUS_MOST as u64 {
         return Err(BadLine::Radius);
     }
     Ok(radius as u32)
+}
+
+fn one_call(call: Call) -> Calls
+    ensures call { result.items ≡ call ∷ [] }
+    ensures request { IsRequest call → AreRequests result }
+{
+    let mut calls = ArrayVec::new();
+    calls.push(call);
+    calls
 }
 
 fn declare_calls(units: &[Unit64]) -> Calls

@@ -35,7 +35,7 @@ fn text_of(alloc: Global, bytes: &[u8]) -> Result<String, Fail> {
 }
 
 // The line with the text of META 0 in place of each `M0`, and what it is read as.
-const LINES: [(&str, &str); 46] = [
+const LINES: [(&str, &str); 64] = [
     ("declare M0", "declare M0"),
     ("declare\tM0\r", "declare M0"),
     (" \t declare \t  M0 \t\r", "declare M0"),
@@ -77,7 +77,25 @@ const LINES: [(&str, &str); 46] = [
     ("DECLARE M0", "bad line"),
     ("declared M0", "bad line"),
     ("find M0", "bad line"),
-    ("withdraw x", "bad line"),
+    ("withdraw 7", "withdraw 7"),
+    ("withdraw 007", "withdraw 7"),
+    ("withdraw x", "bad number"),
+    ("withdraw", "bad line"),
+    ("withdraw 1 2", "bad line"),
+    ("show 18446744073709551615", "show 18446744073709551615"),
+    ("show 18446744073709551616", "bad number"),
+    ("show 00000000000000000042", "show 42"),
+    ("show 000000000000000000042", "bad number"),
+    ("show", "bad line"),
+    ("count", "count"),
+    (" \t count\t \r", "count"),
+    ("count 1", "bad line"),
+    ("counts", "bad line"),
+    ("after 00000000000000000000", "after 0"),
+    ("after 000000000000000000000", "bad number"),
+    ("after -1", "bad number"),
+    ("after", "bad line"),
+    ("after 3 4", "bad line"),
     ("\u{0}", "bad line"),
     ("", "-"),
     ("\r", "-"),

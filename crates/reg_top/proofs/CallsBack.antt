@@ -56,5 +56,8 @@ same_call a b h k e = let is = call_then a b [] [] h k (ap (λ t. t ++ 32 ∷ []
 -- what may be asked for has values of the program's types
 pub requested : (call : Call) → IsRequest call → IsCallValue call
 requested (calls.Declare unit) h = h
+requested (calls.Withdraw id) h = h
 requested (calls.Near unit radius) h = (h.0, omega (arith, h.1))
-requested call h = absurd h
+requested (calls.Show id) h = h
+requested calls.Count h = tt
+requested (calls.After point) h = h

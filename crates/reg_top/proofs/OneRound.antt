@@ -1,25 +1,15 @@
 -- A run of one round with one session, from the items of its file on.
-use Rattle.std.proofs.Common.{◌≡◌, ℕ, zero, suc, ◌+◌, ◌^◌, ◌<◌, ◌≤◌, false, not, cond, List, [], ◌∷◌, ◌++◌, map, length, take, get_or, Option, Some, None, unwrap_or, refl, sym, ◌∙◌, ap, subst, zero-add, append-nil, inl, inr, arith, lit≤}
-use Rattle.std.specs.Prelude.{◌⊎◌, if◌then◌else◌, is_some, count_by, All, codes}
-use Rattle.std.specs.List.{AllByRecursion, cons_option}
+use Rattle.std.proofs.Common.{◌≡◌, ℕ, zero, suc, ◌+◌, ◌^◌, ◌<◌, ◌≤◌, List, [], ◌∷◌, ◌++◌, map, length, take, get_or, Option, Some, None, unwrap_or, refl, sym, ◌∙◌, ap, subst, append-nil, arith, lit≤}
+use Rattle.std.specs.Prelude.{All, codes}
+use Rattle.std.specs.List.{cons_option}
 use Rattle.std.specs.Option.{option_to_list}
 use Rattle.std.specs.Fmt.{decimal}
 use Rattle.std.proofs.lemmas.List.{take_more, length-map}
-use Rattle.std.proofs.lemmas.List.Elements.{All-nil, All-cons, All-weaker, recursion_from_All, filter_map-append}
-use Rattle.std.proofs.lemmas.List.Sums.{sum_by-cons}
-use Rattle.iscc_header.specs.declared.unit.Unit64.{Unit64}
-use Rattle.reg_model.specs.declared.update.Update.{Update}
-use Rattle.reg_model.specs.declared.update.Update.TheVariants.{Decl}
-use Rattle.reg_model.specs.declared.call.Call.{Call}
-use Rattle.reg_model.specs.declared.call.Call.TheVariants as calls
-use Rattle.reg_model.specs.declared.reply.Reply.{Reply}
-use Rattle.reg_model.specs.declared.reply.Reply.TheVariants as replies
+use Rattle.std.proofs.lemmas.List.Elements.{All-nil, All-cons, All-weaker, filter_map-append}
 use Rattle.reg_model.specs.declared.reply.Row.{Row}
 use Rattle.reg_model.specs.Limits.{Limits}
-use Rattle.reg_model.specs.Live.{declared_from, declared, is_withdrawn}
-use Rattle.reg_model.specs.Rows.{update_of, is_accepted, log_of, session_rows, IsLawful}
-use Rattle.reg_model.specs.Runs.{RoundRows, IsLawfulRound, nothing, next_opening}
-use Rattle.reg_model.proofs.LiveSteps.{filter_all}
+use Rattle.reg_model.specs.Rows.{session_rows, IsLawful}
+use Rattle.reg_model.specs.Runs.{RoundRows, IsLawfulRound, nothing}
 use Rattle.reg_requests.specs.declared.items.Item.{Item}
 use Rattle.reg_top.specs.Files.{Files}
 use Rattle.reg_requests.specs.Lines.{line, spaced}
@@ -49,39 +39,6 @@ calls_more list i item within is =
     ap calls_of (take_more list i item within ∙ ap (λ x. take i list ++ x ∷ []) (sym is))
     ∙ filter_map-append call_in (take i list) (item ∷ [])
     ∙ ap (λ calls. calls_of (take i list) ++ calls) (one_or_none (call_in item))
-
--- ---- the live declarations of a round in which nothing is withdrawn
-
-declares : (call : Call) (reply : Reply) → IsRequest call → (update_of call reply ≡ None) ⊎ ((unit : Unit64) × (update_of call reply ≡ Some (Decl unit)))
-declares (calls.Declare unit) (replies.Id id) h = inr (unit, refl)
-declares (calls.Declare unit) reply h = inl refl
-declares (calls.Near unit radius) reply h = inl refl
-declares call reply h = absurd h
-
--- the declarations of a log, and that it withdraws nothing
-record IsCounted (log : List Update) (n : ℕ) : Type 0 where
-  pub declarations : (base : ℕ) → length (declared_from base log) ≡ n
-  pub kept : (id : ℕ) → is_withdrawn log id ≡ false
-
-counted_more : (update : Option Update) (log : List Update) (n : ℕ) → (update ≡ None) ⊎ ((unit : Unit64) × (update ≡ Some (Decl unit))) → IsCounted log n
-    → IsCounted (cons_option update log) ((if is_some update then 1 else 0) + n)
-counted_more update log n cases counted = elim cases [
-  | inl none ↦ rw none (record { declarations = λ base. counted.declarations base ∙ sym (zero-add n); kept = counted.kept })
-  | inr new ↦ (let is = new.1 in rw is (record { declarations = λ base. omega (arith, counted.declarations (base + 1)); kept = counted.kept }))
-]
-
-counted : (rows : List Row) → AllByRecursion IsRequest (map (λ (row : Row). row.call) rows) → IsCounted (log_of rows) (count_by is_accepted rows)
-counted [] all = record { declarations = λ base. refl; kept = λ id. refl }
-counted (row ∷ rows) all =
-    let more = counted_more (update_of row.call row.reply) (log_of rows) (count_by is_accepted rows) (declares row.call row.reply all.0) (counted rows all.1) in
-    subst (IsCounted (log_of (row ∷ rows))) (sym (sum_by-cons (λ (r : Row). cond (is_accepted r) 1 0) row rows)) more
-
--- each accepted row is a live declaration
-pub live_counted : (rows : List Row) → All IsRequest (map (λ (row : Row). row.call) rows) → length (next_opening nothing rows).list ≡ count_by is_accepted rows
-live_counted rows all =
-    let is = counted rows (recursion_from_All IsRequest (map (λ (row : Row). row.call) rows) all) in
-    ap length (filter_all (λ d. not (is_withdrawn (log_of rows) d.id)) (λ d. ap not (is.kept d.id)) (declared nothing (log_of rows)))
-    ∙ is.declarations 0
 
 -- ---- the output
 

@@ -1,6 +1,6 @@
-ghost use Rattle.std.specs.Prelude.{◌≡◌, ◌≢◌, ◌<◌, ◌≤◌, ◌^◌, [], List, ℕ, Some, IfOk, IfErr, OnOk, IsErr, Contains, All, length, map, count_by};
-ghost use Rattle.reg_model.specs.Rows.{is_accepted, IsLawful, session_rows};
-ghost use Rattle.reg_model.specs.Runs.{nothing};
+ghost use Rattle.std.specs.Prelude.{◌≡◌, ◌≢◌, ◌<◌, ◌≤◌, ◌^◌, [], List, ℕ, Some, IfOk, IfErr, OnOk, IsErr, Contains, All, length, map};
+ghost use Rattle.reg_model.specs.Rows.{IsLawful, session_rows};
+ghost use Rattle.reg_model.specs.Runs.{nothing, next_opening};
 ghost use Rattle.reg_top.specs.Faults.{Rose, Quiet};
 ghost use Rattle.reg_top.specs.Files.{Files};
 ghost use Rattle.reg_requests.specs.declared.items.Line.{Line as ALine};
@@ -32,7 +32,7 @@ use crate::status::Status;
 use crate::words::run_file;
 use crate::write::write_output;
 use iscc_header::NoMemory;
-use reg_model::{Call, Carried, Plain, Reply, Row, Sizes, StartFault};
+use reg_model::{Call, Carried, Plain, Row, Sizes, StartFault};
 use reg_requests::{Item, read_requests};
 use std::alloc::Global;
 
@@ -158,31 +158,37 @@ fn output_of(alloc: Global, file: &[u8]) -> Result<Vec<u8>, NoMemory>
 {
     let items = read_requests(alloc, file)?;
     let sizes = Sizes::new(ENTRIES, LOG, BITS, 1).unwrap();
-    let rows = rows_of(alloc, &sizes, items.as_slice())?;
+    let (rows, carried) = serve_items(alloc, &sizes, items.as_slice())?;
     let mut output = Vec::new(alloc);
     print_replies(0, 0, items.as_slice(), rows.as_slice(), &mut output)?;
-    // Nothing was carried and nothing is withdrawn, so each accepted row is a live declaration.
     print_history(
         &sizes,
         rows.as_slice(),
-        accepted(rows.as_slice()),
+        carried.list().len() as u64,
         &mut output,
     )?;
     Ok(output)
 }
 
-// The rows of a session that makes the calls of these items, in a round that begins with nothing.
-fn rows_of(alloc: Global, sizes: &Sizes, items: &[Item]) -> Result<Vec<Row>, NoMemory>
+// The rows of a session that makes the calls of these items, in a round that begins with nothing, and what that round leaves.
+fn serve_items(
+    alloc: Global,
+    sizes: &Sizes,
+    items: &[Item],
+) -> Result<(Vec<Row>, Carried), NoMemory>
     requires few { length (calls_asked items.now) < 2 ^ 32 }
     requires known { All IsRequest (calls_asked items.now) }
     requires callers { 1 ≤ sizes.now.callers }
-    ensures lawful { IfOk result (λ rows. IsLawful sizes.now nothing rows.items) }
-    ensures alone { IfOk result (λ rows. session_rows 0 rows.items ≡ rows.items) }
-    ensures calls { IfOk result (λ rows. map (λ row. row.call) rows.items ≡ calls_asked items.now) }
+    ensures lawful { IfOk result (λ served. IsLawful sizes.now nothing served.0.items) }
+    ensures alone { IfOk result (λ served. session_rows 0 served.0.items ≡ served.0.items) }
+    ensures calls { IfOk result (λ served. map (λ row. row.call) served.0.items ≡ calls_asked items.now) }
+    ensures leaves { IfOk result (λ served. served.1 ≡ next_opening nothing served.0.items) }
 {
     let calls = calls_of(alloc, items)?;
     let mut plain = start(alloc, sizes)?;
-    serve(alloc, &mut plain, calls.as_slice())
+    let rows = serve(alloc, &mut plain, calls.as_slice())?;
+    let carried = plain.carry(alloc)?;
+    Ok((rows, carried))
 }
 
 // The calls among the items, in order.
@@ -196,23 +202,6 @@ fn calls_of(alloc: Global, items: &[Item]) -> Result<Vec<Call>, NoMemory>
         }
     }
     Ok(calls)
-}
-
-// How many rows are accepted.
-fn accepted(rows: &[Row]) -> u64
-    ensures { result ≡ count_by is_accepted rows.now }
-{
-    rows.iter().filter(|row| is_update(row)).count() as u64
-}
-
-fn is_update(row: &Row) -> bool
-    ensures { result ≡ is_accepted row.now }
-{
-    match row.call {
-        Call::Declare(_) => matches!(row.reply, Reply::Id(_)),
-        Call::Withdraw(_) => matches!(row.reply, Reply::Withdrawn(_)),
-        _ => false,
-    }
 }
 
 // A registry that begins with nothing.

@@ -1,6 +1,6 @@
 ghost use Rattle.std.specs.Prelude.{◌≡◌, ◌<◌, ◌≤◌, ◌^◌, [], All, IfOk, length, map};
 ghost use Rattle.reg_model.specs.Registry.{Serves};
-ghost use Rattle.reg_model.specs.Rows.{IsLawful, session_rows};
+ghost use Rattle.reg_model.specs.Rows.{IsLawful, log_of, session_rows};
 ghost use Rattle.reg_requests.specs.Requests.{IsRequest};
 
 use iscc_header::NoMemory;
@@ -16,6 +16,7 @@ pub(crate) fn serve(alloc: Global, plain: &mut Plain, calls: &[Call]) -> Result<
     ensures lawful { IfOk result (λ rows. IsLawful plain.old.limits plain.old.opening rows.items) }
     ensures alone { IfOk result (λ rows. session_rows 0 rows.items ≡ rows.items) }
     ensures calls { IfOk result (λ rows. map (λ row. row.call) rows.items ≡ calls.now) }
+    ensures log { IfOk result (λ rows. plain.new ≡ record plain.old { log = log_of rows.items }) }
 {
     let mut rows = Vec::with_capacity(alloc, calls.len())?;
     for call in calls {
@@ -38,7 +39,10 @@ fn serve_call(alloc: Global, plain: &mut Plain, call: &Call) -> Result<Answer, N
 {
     match *call {
         Call::Declare(unit) => Ok(plain.declare(unit)),
+        Call::Withdraw(id) => Ok(plain.withdraw(id)),
         Call::Near(unit, radius) => plain.near(alloc, unit, radius),
-        _ => unreachable!(),
+        Call::Show(id) => Ok(plain.show(id)),
+        Call::Count => Ok(plain.count()),
+        Call::After(point) => Ok(plain.after(point)),
     }
 }

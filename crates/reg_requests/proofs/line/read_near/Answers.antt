@@ -17,4 +17,4 @@ returns-clause-means c =
 pub returns-clause-requests : goal.returns-clause-requests
 returns-clause-requests c =
     let valid = subst (All IsUnit) (sym c.as_slice.ensures.value) c.in_ok-units.ensures.range in
-    (c.near_calls.ensures.requests valid c.in_ok-radius.ensures.2, c.near_calls.ensures.few)
+    (c.near_calls.ensures.requests valid c.in_ok-radius.ensures.1, c.near_calls.ensures.few)

@@ -1,26 +1,19 @@
-use Rattle.std.proofs.Common.{◌≡◌, map, rules, arith, sym, subst, refl}
-use Rattle.std.specs.Prelude.{All}
+use Rattle.std.proofs.Common.{◌≡◌, map, rules, arith, subst, refl}
 use Rattle.reg_model.specs.declared.reply.Row.{Row}
 use Rattle.reg_model.specs.Limits.{Limits}
 use Rattle.reg_model.specs.Rows.{IsLawful}
 use Rattle.reg_model.specs.Runs.{nothing}
-use Rattle.reg_requests.specs.Requests.{IsRequest, calls_of}
+use Rattle.reg_requests.specs.Requests.{calls_of}
 use Rattle.reg_top.specs.Words.{usual_limits}
-use Rattle.reg_top.proofs.OneRound.{live_counted, run_output}
+use Rattle.reg_top.proofs.OneRound.{run_output}
 use Rattle.reg_top.proofs.run.output_of.Goals as goal
 
-pub rows_of-requires-clause-few : goal.rows_of-requires-clause-few
-rows_of-requires-clause-few c =
+pub serve_items-requires-clause-few : goal.serve_items-requires-clause-few
+serve_items-requires-clause-few c =
     rw c.as_slice.ensures (omega (arith, c.in_ok-items.ensures.few, c.requires))
 
-pub rows_of-requires-clause-known : goal.rows_of-requires-clause-known
-rows_of-requires-clause-known c = rw c.as_slice.ensures c.in_ok-items.ensures.requests
-
-pub print_history-requires : goal.print_history-requires
-print_history-requires c =
-    let asked : map (λ (row : Row). row.call) c.in_ok-rows.rows.items ≡ calls_of c.in_ok-items.items = rw (← c.as_slice.ensures) c.in_ok-rows.ensures.calls in
-    let known : All IsRequest (map (λ (row : Row). row.call) c.in_ok-rows.rows.items) = subst (All IsRequest) (sym asked) c.in_ok-items.ensures.requests in
-    rw (c.accepted.ensures, c.as_slice-4.ensures.value, c.as_slice-5.ensures.value) (sym (live_counted c.in_ok-rows.rows.items known))
+pub serve_items-requires-clause-known : goal.serve_items-requires-clause-known
+serve_items-requires-clause-known c = rw c.as_slice.ensures c.in_ok-items.ensures.requests
 
 pub returns : goal.returns
 returns c = λ files name held.
