@@ -6,3 +6,6 @@ pub mod WorkedRounds
 pub mod RowSteps
 pub mod Answered
 pub mod SortedHits
+pub mod AtHome
+pub mod MergeSteps
+pub mod WorkedMerge

@@ -50,7 +50,7 @@ first_not_less lt o x y xs ys up same =
 
 -- ---- sorted lists
 
-sorted_tail : {X : Type 0} (lt : X → X → Bool) (x : X) (xs : List X) → IsSortedBy lt (x ∷ xs) → IsSortedBy lt xs
+pub sorted_tail : {X : Type 0} (lt : X → X → Bool) (x : X) (xs : List X) → IsSortedBy lt (x ∷ xs) → IsSortedBy lt xs
 sorted_tail lt x xs up = λ k d low high.
     let next : suc k + 1 ≡ suc (k + 1) = omega arith in
     subst (λ j. lt (get_or (x ∷ xs) j d) (get_or xs k d) ≡ false) next (up (suc k) d (omega arith) (omega arith))

@@ -1,3 +1,7 @@
+ghost use Rattle.std.specs.Prelude.{◌≡◌, IfOk};
+ghost use Rattle.reg_model.specs.declared.reply.Row.{Row as ARow};
+ghost use Rattle.reg_model.specs.Merge.{AreAccounts};
+
 use super::*;
 use iscc_header::{Kind, NoMemory, Unit64};
 use std::alloc::Global;
@@ -236,5 +240,61 @@ fn a_round_whose_ids_would_end_past_the_greatest_has_no_start(rt: HostRuntime) -
     assert_eq!(rt; carried.base(), most - 64);
     assert_eq!(rt; carried.list().len(), 0);
     assert!(rt; Plain::start(rt.alloc(), &sizes, &carried).is_ok());
+    Ok(())
+}
+
+fn row(session: u32, number: u32, point: u64, call: Call, reply: Reply) -> Row
+    ensures session { result.session ≡ session }
+    ensures number { result.number ≡ number }
+{
+    Row {
+        session,
+        number,
+        call,
+        point,
+        reply,
+    }
+}
+
+// Two sessions in turn: the first declares, counts and withdraws, and the second declares and is refused.
+fn two_accounts(alloc: Global) -> Result<Accounts, Fail>
+    ensures { IfOk result (λ accounts. AreAccounts accounts) }
+{
+    let full = Reply::Full(FullCause::Entries { given: 0 });
+    let mut first = Rows::new(alloc);
+    first.push(row(0, 0, 1, Call::Declare(meta(0)?), Reply::Id(0)))?;
+    first.push(row(0, 1, 2, Call::Count, Reply::Count(2)))?;
+    first.push(row(0, 2, 3, Call::Withdraw(0), Reply::Withdrawn(0)))?;
+    let mut second = Rows::new(alloc);
+    second.push(row(1, 0, 2, Call::Declare(meta(1)?), Reply::Id(1)))?;
+    second.push(row(1, 1, 2, Call::Declare(meta(0)?), full))?;
+    second.push(row(1, 2, 3, Call::Withdraw(0), Reply::Absent(0)))?;
+    second.push(row(1, 3, 3, Call::Count, Reply::Count(1)))?;
+    let mut accounts = Accounts::new(alloc);
+    accounts.push(first)?;
+    accounts.push(second)?;
+    Ok(accounts)
+}
+
+#[test]
+fn rows_merge_by_point_then_accepted_then_session_then_number(rt: HostRuntime) -> Result<(), Fail> {
+    let accounts = two_accounts(rt.alloc())?;
+    let order = merge(rt.alloc(), &accounts)?;
+    let want = [(0, 0), (1, 0), (0, 1), (1, 1), (0, 2), (1, 2), (1, 3)];
+    let mut places = Order::new(rt.alloc());
+    for (session, number) in want {
+        places.push(Place { session, number })?;
+    }
+    assert_eq!(rt; order, places);
+    Ok(())
+}
+
+#[test]
+fn no_accounts_and_empty_accounts_merge_to_nothing(rt: HostRuntime) -> Result<(), Fail> {
+    let mut accounts = Accounts::new(rt.alloc());
+    assert_eq!(rt; merge(rt.alloc(), &accounts)?.as_slice().len(), 0);
+    accounts.push(Rows::new(rt.alloc()))?;
+    accounts.push(Rows::new(rt.alloc()))?;
+    assert_eq!(rt; merge(rt.alloc(), &accounts)?.as_slice().len(), 0);
     Ok(())
 }
