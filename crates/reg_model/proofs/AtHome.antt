@@ -160,12 +160,12 @@ by_point a b = nat_cmp a.point b.point
 abbrev by_refusal : Row → Row → Ordering
 by_refusal a b = nat_cmp (if is_accepted a then 0 else 1) (if is_accepted b then 0 else 1)
 
-lower_session : (a b : Row) → a.session < b.session → same_rank a b ≡ false
+pub lower_session : (a b : Row) → a.session < b.session → same_rank a b ≡ false
 lower_session a b h =
     ap (λ o. is_eq (ordering_then (by_point a b) (ordering_then (by_refusal a b) (ordering_then o (nat_cmp a.number b.number))))) (less a.session b.session h)
     ∙ third_differs (by_point a b) (by_refusal a b) (nat_cmp a.number b.number)
 
-lower_number : (a b : Row) → a.number < b.number → same_rank a b ≡ false
+pub lower_number : (a b : Row) → a.number < b.number → same_rank a b ≡ false
 lower_number a b h =
     ap (λ o. is_eq (ordering_then (by_point a b) (ordering_then (by_refusal a b) (ordering_then (nat_cmp a.session b.session) o)))) (less a.number b.number h)
     ∙ fourth_differs (by_point a b) (by_refusal a b) (nat_cmp a.session b.session)

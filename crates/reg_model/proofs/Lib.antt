@@ -9,3 +9,5 @@ pub mod SortedHits
 pub mod AtHome
 pub mod MergeSteps
 pub mod WorkedMerge
+pub mod OneMerge
+pub mod LawfulOrder

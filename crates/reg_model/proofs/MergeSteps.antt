@@ -30,7 +30,7 @@ key_cmp a b =
     (nat_cmp a.place.session b.place.session))
     (nat_cmp a.place.number b.place.number)
 
-refused_cmp : (a b : Bool) → bool_cmp (not a) (not b) ≡ nat_cmp (if a then 0 else 1) (if b then 0 else 1)
+pub refused_cmp : (a b : Bool) → bool_cmp (not a) (not b) ≡ nat_cmp (if a then 0 else 1) (if b then 0 else 1)
 refused_cmp true true = refl
 refused_cmp true false = refl
 refused_cmp false true = refl
@@ -48,7 +48,7 @@ key_cmp_is a b =
     regrouped (nat_cmp a.point b.point) (bool_cmp (not (is_accepted a)) (not (is_accepted b))) (nat_cmp a.session b.session) (nat_cmp a.number b.number)
     ∙ ap (λ o. ordering_then (nat_cmp a.point b.point) (ordering_then o (ordering_then (nat_cmp a.session b.session) (nat_cmp a.number b.number)))) (refused_cmp (is_accepted a) (is_accepted b))
 
-row_total : IsTotalOrder row_cmp
+pub row_total : IsTotalOrder row_cmp
 row_total =
     then_total (on_total (λ (r : Row). r.point) nat_cmp_total)
     (then_total (on_total (λ (r : Row). if is_accepted r then 0 else 1) nat_cmp_total)

@@ -55,7 +55,7 @@ sorted_tail lt x xs up = λ k d low high.
     let next : suc k + 1 ≡ suc (k + 1) = omega arith in
     subst (λ j. lt (get_or (x ∷ xs) j d) (get_or xs k d) ≡ false) next (up (suc k) d (omega arith) (omega arith))
 
-same_sorted : {X : Type 0} (lt : X → X → Bool) → IsStrictWeakOrder lt → (P : X → Type 0) → ((x y : X) → P x → P y → lt x y ≡ false → lt y x ≡ false → x ≡ y)
+pub same_sorted : {X : Type 0} (lt : X → X → Bool) → IsStrictWeakOrder lt → (P : X → Type 0) → ((x y : X) → P x → P y → lt x y ≡ false → lt y x ≡ false → x ≡ y)
     → (xs ys : List X) → AllByRecursion P xs → AllByRecursion P ys → IsSortedBy lt xs → IsSortedBy lt ys → ((f : X → ℕ) → sum_by f xs ≡ sum_by f ys) → xs ≡ ys
 same_sorted lt o P one [] [] p q up rise same = refl
 same_sorted lt o P one [] (y ∷ ys) p q up rise same = absurd (omega (arith, same (λ z. 1), sum_by-cons (λ z. 1) y ys))

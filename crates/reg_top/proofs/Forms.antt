@@ -7,7 +7,7 @@ use Rattle.reg_top.specs.declared.words.SideWord.TheVariants as side
 use Rattle.reg_top.specs.Words.{Command, IsRunOf, HasOneValue, HasTexts, IsValue, IsForm, IsSideCommand, side_text, plan_of}
 use Rattle.reg_top.specs.Words.Command.{Run, Explain, Compose, Instance}
 use Rattle.reg_top.specs.Statuses.{HasNoForm}
-use Rattle.reg_top.proofs.WordsBack.{first}
+use Rattle.reg_history.proofs.WordsBack.{first}
 
 -- the first word of a command
 abbrev pub first_text : Command → List ℕ

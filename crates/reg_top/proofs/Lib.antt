@@ -1,17 +1,10 @@
 pub mod WorkedOutput
 pub mod ServeSteps
 pub mod RoundMarks
-pub mod Texts
 pub mod Writing
-pub mod RunValues
 pub mod OneRound
 pub mod Forms
 pub mod Endings
 pub mod Compositions
 pub mod NoFloats
 pub mod Causes
-pub mod WordsBack
-pub mod CallsBack
-pub mod RepliesBack
-pub mod RowsBack
-pub mod RunsBack

@@ -1,25 +1,32 @@
 -- A run of one round with one session, from the items of its file on.
-use Rattle.std.proofs.Common.{◌≡◌, ℕ, zero, suc, ◌+◌, ◌^◌, ◌<◌, ◌≤◌, List, [], ◌∷◌, ◌++◌, map, length, take, get_or, Option, Some, None, unwrap_or, refl, sym, ◌∙◌, ap, subst, append-nil, arith, lit≤}
+use Rattle.std.proofs.Common.{◌≡◌, ℕ, zero, suc, ◌+◌, ◌^◌, ◌<◌, ◌≤◌, List, [], ◌∷◌, ◌++◌, map, length, take, get_or, Option, Some, None, unwrap_or, refl, sym, ◌∙◌, ap, ap₂, subst, append-nil, arith, lit≤}
 use Rattle.std.specs.Prelude.{All, codes}
 use Rattle.std.specs.List.{cons_option}
 use Rattle.std.specs.Option.{option_to_list}
 use Rattle.std.specs.Fmt.{decimal}
 use Rattle.std.proofs.lemmas.List.{take_more, length-map}
-use Rattle.std.proofs.lemmas.List.Elements.{All-nil, All-cons, All-weaker, filter_map-append}
+use Rattle.std.proofs.lemmas.List.Elements.{All-nil, All-cons, filter_map-append}
 use Rattle.reg_model.specs.declared.reply.Row.{Row}
+use Rattle.reg_model.specs.declared.call.Call.{Call}
+use Rattle.reg_model.specs.declared.round.Round.{Round}
+use Rattle.reg_model.specs.declared.update.Declared.{Declared}
+use Rattle.reg_model.specs.Opening.{Opening}
+use Rattle.reg_model.specs.Merge.{AreAccounts}
 use Rattle.reg_model.specs.Limits.{Limits}
-use Rattle.reg_model.specs.Rows.{session_rows, IsLawful}
+use Rattle.reg_model.specs.Rows.{session_rows, IsLawful, IsMerge}
+use Rattle.reg_model.proofs.LawfulOrder.{lone_accounts, lone_merge}
+use Rattle.reg_history.specs.Rounds.{AreRoundsOf}
+use Rattle.reg_top.specs.LoneRounds.{IsLoneRound}
 use Rattle.reg_model.specs.Runs.{RoundRows, IsLawfulRound, nothing}
 use Rattle.reg_requests.specs.declared.items.Item.{Item}
 use Rattle.reg_top.specs.Files.{Files}
 use Rattle.reg_requests.specs.Lines.{line, spaced}
 use Rattle.reg_requests.specs.Requests.{IsRequest, AreItems, call_in, calls_of}
-use Rattle.reg_top.specs.History.{history_text}
+use Rattle.reg_history.specs.History.{history_text}
 use Rattle.reg_top.specs.Words.{usual_limits, plan_of}
 use Rattle.reg_top.specs.Output.{item_lines, MakesCalls, IsRunOutput}
-use Rattle.reg_top.specs.Values.{IsDeclaredValue, IsCallValue, IsRowValue, IsRunValue}
-use Rattle.reg_top.proofs.CallsBack.{requested}
-use Rattle.reg_top.proofs.RunValues.{round_values}
+use Rattle.reg_history.specs.Values.{IsDeclaredValue, IsRowValue, IsRunValue}
+use Rattle.reg_history.proofs.RunValues.{round_values}
 
 -- ---- the calls of a file
 
@@ -65,11 +72,10 @@ run_values : (file : List ℕ) (list : List Item) (rows : List Row) → length f
     → IsRunValue nothing (one_round rows ∷ [])
 run_values file list rows short are asked lawful =
     let known : All IsRequest (map (λ (row : Row). row.call) rows) = subst (All IsRequest) (sym asked) are.requests in
-    let calls : All IsCallValue (map (λ (row : Row). row.call) rows) = All-weaker IsRequest IsCallValue requested (map (λ (row : Row). row.call) rows) known in
     let few : length rows ≤ 2 ^ 32 = omega (arith, short, are.few, ap length asked, length-map rows (λ (row : Row). row.call)) in
     record {
       carried = All-nil IsDeclaredValue;
-      rows = All-cons (λ (round : RoundRows). All IsRowValue round.rows) (one_round rows) [] (round_values nothing (one_round rows) (round_lawful rows lawful) (All-nil IsDeclaredValue) calls few) (All-nil (λ (round : RoundRows). All IsRowValue round.rows));
+      rows = All-cons (λ (round : RoundRows). All IsRowValue round.rows) (one_round rows) [] (round_values nothing (one_round rows) (round_lawful rows lawful) (All-nil IsDeclaredValue) known few) (All-nil (λ (round : RoundRows). All IsRowValue round.rows));
     }
 
 -- the lines of the one session, and the history
@@ -95,3 +101,28 @@ run_output files name file list rows output held short are asked alone lawful te
       ∙ ap (λ lines. lines ++ history_text nothing (record { limits = usual_limits 1; rows = rows } ∷ []))
       (sym (append-nil _ ∙ append-nil _ ∙ ap (λ rs. line (spaced (codes "replies" ∷ decimal 0 ∷ decimal 0 ∷ [])) ++ item_lines list rs) alone));
 }
+
+-- ---- the round of the one session
+
+pub lone_run : (limits : Limits) (calls : List Call) (round : Round) (lone : IsLoneRound limits calls round) → AreRoundsOf nothing (round ∷ []) (record { limits = limits; rows = lone.rows } ∷ [])
+lone_run limits calls round lone = (
+  record {
+    base = lone.base;
+    sizes = lone.sizes;
+    accounts = subst AreAccounts (sym lone.account) (lone_accounts limits nothing lone.rows lone.lawful lone.alone);
+    merge = subst (λ accounts. IsMerge accounts lone.rows) (sym lone.account) (lone_merge limits nothing lone.rows lone.lawful);
+    leaves = lone.leaves;
+  },
+  tt,
+)
+
+-- the rows of the one account
+pub lone_account : (limits : Limits) (calls : List Call) (round : Round) (accounts : List (List Row)) (rows : List Row) → (lone : IsLoneRound limits calls round) → accounts ≡ round.accounts
+    → rows ≡ get_or accounts 0 rows → rows ≡ lone.rows
+lone_account limits calls round accounts rows lone same is = is ∙ ap (λ list. get_or list 0 rows) (same ∙ lone.account)
+
+pub opening_is : (opening : Opening) → opening.base ≡ 0 → opening.list ≡ [] → opening ≡ nothing
+opening_is opening base list = ap₂ opening_made base list
+  where
+    opening_made : ℕ → List Declared → Opening
+    opening_made b l = record { base = b; list = l }

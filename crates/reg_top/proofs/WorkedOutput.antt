@@ -9,10 +9,10 @@ use Rattle.reg_model.specs.Runs.{RoundRows, IsHistory, nothing}
 use Rattle.reg_model.proofs.WorkedRows.{usual, hit, two_units, two_units_lawful}
 use Rattle.reg_requests.specs.Lines.{line}
 use Rattle.reg_requests.proofs.WorkedLines.{file, wanted, file_items}
-use Rattle.reg_top.specs.History.{history_text}
+use Rattle.reg_history.specs.History.{history_text}
 use Rattle.reg_top.specs.Words.{RoundPlan}
 use Rattle.reg_top.specs.Output.{IsRunOutput, MakesCalls}
-use Rattle.reg_top.specs.Values.{IsDeclaredValue, IsHitValue, IsRowValue, IsRunValue}
+use Rattle.reg_history.specs.Values.{IsDeclaredValue, IsHitValue, IsRowValue, IsRunValue}
 
 abbrev pub output : List ℕ
 output =

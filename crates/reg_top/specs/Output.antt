@@ -11,9 +11,9 @@ use Rattle.reg_requests.specs.declared.items.Item.TheVariants as items
 use Rattle.reg_top.specs.Files.{Files}
 use Rattle.reg_requests.specs.Lines.{line, spaced, reply_text, bad_text, kind_of}
 use Rattle.reg_requests.specs.Requests.{AreItems, calls_of}
-use Rattle.reg_top.specs.History.{history_text}
+use Rattle.reg_history.specs.History.{history_text}
 use Rattle.reg_top.specs.Words.{RoundPlan}
-use Rattle.reg_top.specs.Values.{IsRunValue}
+use Rattle.reg_history.specs.Values.{IsRunValue}
 
 -- a line for each item of a file: the refusal, or the reply of the call's row
 abbrev pub item_lines : List Item → List Row → List ℕ

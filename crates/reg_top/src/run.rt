@@ -1,6 +1,6 @@
 ghost use Rattle.std.specs.Prelude.{◌≡◌, ◌≢◌, ◌<◌, ◌≤◌, ◌^◌, [], List, ℕ, Some, IfOk, IfErr, OnOk, IsErr, Contains, All, length, map};
-ghost use Rattle.reg_model.specs.Rows.{IsLawful, session_rows};
-ghost use Rattle.reg_model.specs.Runs.{nothing, next_opening};
+ghost use Rattle.reg_model.specs.Runs.{nothing};
+ghost use Rattle.reg_top.specs.LoneRounds.{IsLoneRound};
 ghost use Rattle.reg_top.specs.Faults.{Rose, Quiet};
 ghost use Rattle.reg_top.specs.Files.{Files};
 ghost use Rattle.reg_requests.specs.declared.items.Line.{Line as ALine};
@@ -22,7 +22,6 @@ ghost use Rattle.reg_top.specs.CommandOutput.{IsOutput, WritesFront};
 use crate::args::Args;
 use crate::fault_line::tell_status;
 use crate::fetch::fetch_file;
-use crate::history::print_history;
 use crate::replies::print_replies;
 use crate::serve::serve;
 use crate::shelf::Shelf;
@@ -32,7 +31,8 @@ use crate::status::Status;
 use crate::words::run_file;
 use crate::write::write_output;
 use iscc_header::NoMemory;
-use reg_model::{Call, Carried, Plain, Row, Sizes, StartFault};
+use reg_history::append_history;
+use reg_model::{Accounts, Call, Carried, Plain, Round, Rows, Sizes, StartFault};
 use reg_requests::{Item, read_requests};
 use std::alloc::Global;
 
@@ -158,37 +158,37 @@ fn output_of(alloc: Global, file: &[u8]) -> Result<Vec<u8>, NoMemory>
 {
     let items = read_requests(alloc, file)?;
     let sizes = Sizes::new(ENTRIES, LOG, BITS, 1).unwrap();
-    let (rows, carried) = serve_items(alloc, &sizes, items.as_slice())?;
+    let rounds = [serve_items(alloc, &sizes, items.as_slice())?];
     let mut output = Vec::new(alloc);
-    print_replies(0, 0, items.as_slice(), rows.as_slice(), &mut output)?;
-    print_history(
-        &sizes,
-        rows.as_slice(),
-        carried.list().len() as u64,
+    print_replies(
+        0,
+        0,
+        items.as_slice(),
+        rounds[0].accounts.as_slice()[0].as_slice(),
         &mut output,
     )?;
+    append_history(alloc, &Carried::new(alloc, 0), &rounds, &mut output)?;
     Ok(output)
 }
 
-// The rows of a session that makes the calls of these items, in a round that begins with nothing, and what that round leaves.
-fn serve_items(
-    alloc: Global,
-    sizes: &Sizes,
-    items: &[Item],
-) -> Result<(Vec<Row>, Carried), NoMemory>
+// The round of a session that makes the calls of these items, which begins with nothing.
+fn serve_items(alloc: Global, sizes: &Sizes, items: &[Item]) -> Result<Round, NoMemory>
     requires few { length (calls_asked items.now) < 2 ^ 32 }
     requires known { All IsRequest (calls_asked items.now) }
     requires callers { 1 ≤ sizes.now.callers }
-    ensures lawful { IfOk result (λ served. IsLawful sizes.now nothing served.0.items) }
-    ensures alone { IfOk result (λ served. session_rows 0 served.0.items ≡ served.0.items) }
-    ensures calls { IfOk result (λ served. map (λ row. row.call) served.0.items ≡ calls_asked items.now) }
-    ensures leaves { IfOk result (λ served. served.1 ≡ next_opening nothing served.0.items) }
+    ensures { IfOk result (IsLoneRound sizes.now (calls_asked items.now)) }
 {
     let calls = calls_of(alloc, items)?;
     let mut plain = start(alloc, sizes)?;
     let rows = serve(alloc, &mut plain, calls.as_slice())?;
-    let carried = plain.carry(alloc)?;
-    Ok((rows, carried))
+    let mut accounts = Accounts::new(alloc);
+    accounts.push(Rows::from_vec(rows))?;
+    Ok(Round {
+        base: 0,
+        sizes: *sizes,
+        accounts,
+        carried: plain.carry(alloc)?,
+    })
 }
 
 // The calls among the items, in order.

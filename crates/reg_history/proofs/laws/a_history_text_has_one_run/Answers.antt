@@ -1,0 +1,5 @@
+use Rattle.reg_history.proofs.RunsBack.{same_run}
+use Rattle.reg_history.proofs.laws.a_history_text_has_one_run.Goals as goal
+
+pub returns : goal.returns
+returns c = same_run

@@ -1,0 +1,5 @@
+mod check;
+mod ledger;
+mod line;
+mod live;
+mod print;

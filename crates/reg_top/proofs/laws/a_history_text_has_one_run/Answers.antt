@@ -1,5 +1,0 @@
-use Rattle.reg_top.proofs.RunsBack.{same_run}
-use Rattle.reg_top.proofs.laws.a_history_text_has_one_run.Goals as goal
-
-pub returns : goal.returns
-returns c = same_run
