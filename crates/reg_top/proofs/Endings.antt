@@ -9,9 +9,9 @@ use Rattle.reg_top.specs.Files.{Files}
 use Rattle.reg_requests.specs.Lines.{line}
 use Rattle.reg_top.specs.CommandOutput.{IsOutput}
 use Rattle.reg_top.specs.Words.{Command, fetched_names}
-use Rattle.reg_top.specs.Statuses.{refusal_then, first_refusal, fetch_limit, file_fault}
+use Rattle.reg_top.specs.Statuses.{refusal_then, first_refusal, fetch_limit, file_fault, IsFetched}
 use Rattle.reg_top.specs.FaultLines.{Tells, IsTold, status_text}
-use Rattle.reg_top.specs.Ends.{StopsFetch, Declines, OutputEnds, IsFetched, Ends}
+use Rattle.reg_top.specs.Ends.{StopsFetch, Declines, OutputEnds, Ends}
 
 -- ---- the one file of a command
 
@@ -73,16 +73,17 @@ unfetched command files count none = (none_fetched files command none, refl)
 
 -- what it is given makes no output
 pub declined_ends : (command : Command) (files : Option Files) (before now : ℕ) (taken after : Option (List ℕ)) (was faults : ℕ) (end : Status)
-    → Declines command end → (IsTold end → Tells taken after was faults (line (status_text end []))) → Ends command files before now taken after was faults end
-declined_ends command files before now taken after was faults status.Memory declines tells = (tt, line (status_text status.Memory []), refl, tells tt)
-declined_ends command files before now taken after was faults (status.Refused why) declines tells =
-    (declines, line (status_text (status.Refused why) []), (declines, refl), tells tt)
-declined_ends command files before now taken after was faults status.Done declines tells = absurd declines
-declined_ends command files before now taken after was faults status.Write declines tells = absurd declines
-declined_ends command files before now taken after was faults status.Words declines tells = absurd declines
-declined_ends command files before now taken after was faults status.Missing declines tells = absurd declines
-declined_ends command files before now taken after was faults status.TooLong declines tells = absurd declines
-declined_ends command files before now taken after was faults status.Read declines tells = absurd declines
+    → IsFetched command files before now → Declines command files end → (IsTold end → Tells taken after was faults (line (status_text end [])))
+    → Ends command files before now taken after was faults end
+declined_ends command files before now taken after was faults status.Memory fetched declines tells = (tt, line (status_text status.Memory []), refl, tells tt)
+declined_ends command files before now taken after was faults (status.Refused why) fetched declines tells =
+    ((fetched, declines), line (status_text (status.Refused why) []), (declines, refl), tells tt)
+declined_ends command files before now taken after was faults status.Done fetched declines tells = absurd declines
+declined_ends command files before now taken after was faults status.Write fetched declines tells = absurd declines
+declined_ends command files before now taken after was faults status.Words fetched declines tells = absurd declines
+declined_ends command files before now taken after was faults status.Missing fetched declines tells = absurd declines
+declined_ends command files before now taken after was faults status.TooLong fetched declines tells = absurd declines
+declined_ends command files before now taken after was faults status.Read fetched declines tells = absurd declines
 
 -- ---- an output that is written
 

@@ -5,9 +5,8 @@ use Rattle.std.proofs.lemmas.Option.{same_Some, none-some}
 use Rattle.reg_top.specs.declared.words.SideWord.{SideWord}
 use Rattle.reg_top.specs.declared.words.SideWord.TheVariants as side
 use Rattle.reg_top.specs.Words.{Command, IsRunOf, HasOneValue, HasTexts, IsValue, IsForm, IsSideCommand, side_text, plan_of}
-use Rattle.reg_top.specs.Words.Command.{Run, Explain, Compose, Instance}
+use Rattle.reg_top.specs.Words.Command.{Run, Explain, Compose, Instance, Check}
 use Rattle.reg_top.specs.Statuses.{HasNoForm}
-use Rattle.reg_history.proofs.WordsBack.{first}
 
 -- the first word of a command
 abbrev pub first_text : Command → List ℕ
@@ -15,16 +14,24 @@ first_text (Run plan) = codes "run"
 first_text (Explain text) = codes "explain"
 first_text (Compose texts) = codes "compose"
 first_text (Instance name) = codes "instance"
+first_text (Check name) = codes "check"
 
 pub first_word : (words : List (List ℕ)) (command : Command) → IsForm words command → slice_get words 0 ≡ Some (first_text command)
 first_word words (Run plan) form = let is = form.1 in ap (λ ws. slice_get ws 0) is.words_are
 first_word words (Explain text) form = ap (λ ws. slice_get ws 0) form.words_are
 first_word words (Compose texts) form = ap (λ ws. slice_get ws 0) form.words_are
 first_word words (Instance name) form = ap (λ ws. slice_get ws 0) form.words_are
+first_word words (Check name) form = ap (λ ws. slice_get ws 0) form.words_are
 
--- words that begin so are of no form that begins with another byte
-same_first : (words : List (List ℕ)) (a b : List ℕ) → slice_get words 0 ≡ Some a → slice_get words 0 ≡ Some b → first a ≡ first b
-same_first words a b h k = ap first (same_Some a b (sym h ∙ k))
+-- the second letter, by which first words are told apart
+abbrev pub letter : List ℕ → ℕ
+letter [] = 0
+letter (x ∷ []) = 0
+letter (x ∷ y ∷ word) = y
+
+-- words that begin so are of no form that begins with another word
+same_letter : (words : List (List ℕ)) (a b : List ℕ) → slice_get words 0 ≡ Some a → slice_get words 0 ≡ Some b → letter a ≡ letter b
+same_letter words a b h k = ap letter (same_Some a b (sym h ∙ k))
 
 abbrev second : List (List ℕ) → List ℕ
 second [] = []
@@ -42,8 +49,9 @@ one_form words (Run p) (Run q) h k = ap Run (h.2 ∙ ap plan_of (same_name words
 one_form words (Explain s) (Explain t) h k = ap Explain (same_value words (codes "explain") s t h k)
 one_form words (Compose s) (Compose t) h k = ap Compose (ap (λ ws. drop 1 ws) (sym h.words_are ∙ k.words_are))
 one_form words (Instance s) (Instance t) h k = ap Instance (same_value words (codes "instance") s t h k)
+one_form words (Check s) (Check t) h k = ap Check (same_value words (codes "check") s t h k)
 one_form words a b h k =
-    absurd (omega (arith, same_first words (first_text a) (first_text b) (first_word words a h) (first_word words b k)))
+    absurd (omega (arith, same_letter words (first_text a) (first_text b) (first_word words a h) (first_word words b k)))
 
 -- ---- words of no form, by their first word
 
@@ -52,19 +60,24 @@ no_run words none other (Run plan) form = none form.0 form.1
 no_run words none other (Explain text) form = other (side.Explain, first_word words (Explain text) form)
 no_run words none other (Compose texts) form = other (side.Compose, first_word words (Compose texts) form)
 no_run words none other (Instance name) form = other (side.Instance, first_word words (Instance name) form)
+no_run words none other (Check name) form = other (side.Check, first_word words (Check name) form)
 
 pub no_explain : (words : List (List ℕ)) → slice_get words 0 ≡ Some (codes "explain") → ((text : List ℕ) → HasOneValue words (codes "explain") text → ⊥) → HasNoForm words
 no_explain words begins none (Explain text) form = none text form
-no_explain words begins none command form = omega (arith, same_first words (first_text command) (codes "explain") (first_word words command form) begins)
+no_explain words begins none command form = omega (arith, same_letter words (first_text command) (codes "explain") (first_word words command form) begins)
 
 pub no_instance : (words : List (List ℕ)) → slice_get words 0 ≡ Some (codes "instance") → ((name : List ℕ) → HasOneValue words (codes "instance") name → ⊥) → HasNoForm words
 no_instance words begins none (Instance name) form = none name form
-no_instance words begins none command form = omega (arith, same_first words (first_text command) (codes "instance") (first_word words command form) begins)
+no_instance words begins none command form = omega (arith, same_letter words (first_text command) (codes "instance") (first_word words command form) begins)
+
+pub no_check : (words : List (List ℕ)) → slice_get words 0 ≡ Some (codes "check") → ((name : List ℕ) → HasOneValue words (codes "check") name → ⊥) → HasNoForm words
+no_check words begins none (Check name) form = none name form
+no_check words begins none command form = omega (arith, same_letter words (first_text command) (codes "check") (first_word words command form) begins)
 
 pub no_compose : (words : List (List ℕ)) → slice_get words 0 ≡ Some (codes "compose") → ((0 < length (drop 1 words)) × All IsValue (drop 1 words) → ⊥) → HasNoForm words
 no_compose words begins none (Compose texts) form =
     none (subst (λ ts. (0 < length ts) × All IsValue ts) (sym (ap (λ ws. drop 1 ws) form.words_are)) (form.some, form.are_values))
-no_compose words begins none command form = omega (arith, same_first words (first_text command) (codes "compose") (first_word words command form) begins)
+no_compose words begins none command form = omega (arith, same_letter words (first_text command) (codes "compose") (first_word words command form) begins)
 
 -- the words are `compose` and the texts behind it
 pub compose_form : (words : List (List ℕ)) → slice_get words 0 ≡ Some (codes "compose") → (0 < length (drop 1 words)) × All IsValue (drop 1 words) → HasTexts words (drop 1 words)

@@ -8,3 +8,6 @@ pub mod Endings
 pub mod Compositions
 pub mod NoFloats
 pub mod Causes
+pub mod SavedLines
+pub mod CheckedFiles
+pub mod WorkedCheck

@@ -50,7 +50,7 @@ made : MakesCalls (wanted ∷ []) round
 made zero list e = rw (← ap (λ o. unwrap_or o wanted) e) refl
 made (suc k) list e = absurd (cc)
 
-lawful : IsHistory nothing (round ∷ [])
+pub lawful : IsHistory nothing (round ∷ [])
 lawful = record {
   opens = record { base = lit≤ tt; rising = λ i j d lt low. absurd (omega arith); below = λ k d low. absurd (omega arith) };
   some = lit≤ tt;
@@ -67,7 +67,7 @@ lawful = record {
 }
 
 -- each number of the three rows is in range
-values : IsRunValue nothing (round ∷ [])
+pub values : IsRunValue nothing (round ∷ [])
 values = record {
   carried = All-nil IsDeclaredValue;
   rows = All-from_recursion (λ (r : RoundRows). All IsRowValue r.rows) (round ∷ []) (

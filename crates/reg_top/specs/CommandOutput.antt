@@ -3,9 +3,9 @@ use Rattle.std.specs.Prelude.{ℕ, List, Option, IfSome}
 use Rattle.reg_model.specs.Runs.{nothing}
 use Rattle.reg_top.specs.Files.{Files}
 use Rattle.reg_top.specs.Words.{Command}
-use Rattle.reg_top.specs.Words.Command.{Run, Explain, Compose, Instance}
+use Rattle.reg_top.specs.Words.Command.{Run, Explain, Compose, Instance, Check}
 use Rattle.reg_top.specs.Output.{IsRunOutput, TakesWhole, TakesPart}
-use Rattle.reg_top.specs.SideOutput.{IsExplanation, IsComposition, IsInstanceLine}
+use Rattle.reg_top.specs.SideOutput.{IsExplanation, IsComposition, IsInstanceLine, IsLawfulLine}
 
 -- the output is that of the command; of one that fetches files, where the shelf tells them
 abbrev pub IsOutput : Command → Option Files → List ℕ → Type 0
@@ -13,6 +13,7 @@ IsOutput (Run plan) files output = IfSome files (λ map. IsRunOutput nothing pla
 IsOutput (Explain text) files output = IsExplanation text output
 IsOutput (Compose texts) files output = IsComposition texts output
 IsOutput (Instance name) files output = IfSome files (λ map. IsInstanceLine name map output)
+IsOutput (Check name) files output = IfSome files (λ map. IsLawfulLine name map output)
 
 -- the sink has taken an output of the command, and nothing else
 abbrev pub Writes : Command → Option Files → Option (List ℕ) → Option (List ℕ) → Type 0

@@ -7,6 +7,8 @@ use Rattle.iscc_code.specs.declared.composing.ComposeFault.{ComposeFault}
 use Rattle.iscc_code.specs.declared.composing.ComposeFault.TheVariants as compose_faults
 use Rattle.iscc_text.specs.declared.read.TextFault.{TextFault}
 use Rattle.iscc_text.specs.declared.read.TextFault.TheVariants as text_faults
+use Rattle.reg_history.specs.declared.fault.CheckWhy.{CheckWhy}
+use Rattle.reg_history.specs.declared.fault.CheckWhy.TheVariants as line_faults
 use Rattle.reg_top.specs.declared.refusal.WordFault.{WordFault}
 use Rattle.reg_top.specs.declared.refusal.WordFault.TheVariants as word_faults
 use Rattle.reg_top.specs.declared.refusal.Refusal.{Refusal}
@@ -14,6 +16,7 @@ use Rattle.reg_top.specs.declared.refusal.Refusal.TheVariants as refusals
 use Rattle.reg_top.specs.declared.status.Status.{Status}
 use Rattle.reg_top.specs.declared.status.Status.TheVariants as status
 use Rattle.reg_top.specs.Faults.{Quiet}
+use Rattle.reg_top.specs.Files.{Files}
 use Rattle.reg_requests.specs.Lines.{line, spaced}
 use Rattle.reg_top.specs.Output.{TakesWhole, TakesPart}
 use Rattle.reg_top.specs.Words.{Command, IsForm, fetched_names}
@@ -50,11 +53,23 @@ compose_why compose_faults.NoInstance = codes "no instance"
 compose_why compose_faults.Narrow = codes "narrow"
 compose_why compose_faults.SubTypes = codes "sub types"
 
--- why a command refuses what it is given
+-- why a line of a history can't stand
+abbrev pub line_why : CheckWhy → List ℕ
+line_why line_faults.Form = codes "form"
+line_why line_faults.Round = codes "round"
+line_why line_faults.Session = codes "session"
+line_why line_faults.Order = codes "order"
+line_why line_faults.Point = codes "point"
+line_why line_faults.Reply = codes "reply"
+line_why line_faults.End = codes "end"
+
+-- why a command refuses what it is given; a file without a history has no line that is told
 abbrev pub refusal_why : Refusal → List ℕ
 refusal_why (refusals.Text fault) = spaced (codes "text" ∷ text_why fault ∷ [])
 refusal_why (refusals.Word at why) = spaced (codes "word" ∷ decimal at ∷ word_why why ∷ [])
 refusal_why (refusals.Units fault) = spaced (codes "compose" ∷ compose_why fault ∷ [])
+refusal_why refusals.NoHistory = spaced (codes "line" ∷ codes "0" ∷ codes "none" ∷ [])
+refusal_why (refusals.Line fault) = spaced (codes "line" ∷ decimal fault.line ∷ line_why fault.why ∷ [])
 
 -- a status and the name of the file that it tells, if it tells one
 abbrev pub status_text : Status → List ℕ → List ℕ
@@ -77,18 +92,18 @@ abbrev pub NamesFile : Command → Status → List ℕ → Type 0
 NamesFile command which text = (name : List ℕ) × Contains (fetched_names command) name × (text ≡ line (status_text which name))
 
 -- the text is the line that tells a status of this command
-abbrev pub IsCommandLine : Command → Status → List ℕ → Type 0
-IsCommandLine command status.Missing text = NamesFile command status.Missing text
-IsCommandLine command status.Read text = NamesFile command status.Read text
-IsCommandLine command status.TooLong text = NamesFile command status.TooLong text
-IsCommandLine command status.Memory text = text ≡ line (status_text status.Memory [])
-IsCommandLine command (status.Refused why) text = Refuses command why × (text ≡ line (status_text (status.Refused why) []))
-IsCommandLine command other text = ⊥
+abbrev pub IsCommandLine : Command → Option Files → Status → List ℕ → Type 0
+IsCommandLine command files status.Missing text = NamesFile command status.Missing text
+IsCommandLine command files status.Read text = NamesFile command status.Read text
+IsCommandLine command files status.TooLong text = NamesFile command status.TooLong text
+IsCommandLine command files status.Memory text = text ≡ line (status_text status.Memory [])
+IsCommandLine command files (status.Refused why) text = Refuses command files why × (text ≡ line (status_text (status.Refused why) []))
+IsCommandLine command files other text = ⊥
 
--- the line of a status, where the words are these
-abbrev pub IsLineOf : List (List ℕ) → Status → List ℕ → Type 0
-IsLineOf words status.Words text = text ≡ line (status_text status.Words [])
-IsLineOf words other text = (command : Command) × IsForm words command × IsCommandLine command other text
+-- the line of a status, where the words are these, and the files those of the shelf
+abbrev pub IsLineOf : List (List ℕ) → Option Files → Status → List ℕ → Type 0
+IsLineOf words files status.Words text = text ≡ line (status_text status.Words [])
+IsLineOf words files other text = (command : Command) × IsForm words command × IsCommandLine command files other text
 
 -- a sink has taken a front of a line, and the whole of it where no fault came
 pub record Tells (before after : Option (List ℕ)) (was faults : ℕ) (text : List ℕ) : Type 0 where
@@ -96,9 +111,9 @@ pub record Tells (before after : Option (List ℕ)) (was faults : ℕ) (text : L
   pub whole : Quiet was faults → TakesWhole before after text
 
 -- it has taken the line of this status
-pub record TellsStatus (words : List (List ℕ)) (number : ℕ) (before after : Option (List ℕ)) (was faults : ℕ) : Type 0 where
+pub record TellsStatus (words : List (List ℕ)) (files : Option Files) (number : ℕ) (before after : Option (List ℕ)) (was faults : ℕ) : Type 0 where
   pub which : Status
   pub same : number ≡ status_number which
   pub text : List ℕ
-  pub is : IsLineOf words which text
+  pub is : IsLineOf words files which text
   pub told : Tells before after was faults text

@@ -1,5 +1,6 @@
 -- What the commands write that serve nothing.
-use Rattle.std.specs.Prelude.{◌≡◌, ℕ, List, ◌++◌, Option, Some, None, IfSome, codes}
+use Rattle.std.specs.Prelude.{◌≡◌, ℕ, List, [], ◌∷◌, ◌++◌, Option, Some, None, IfSome, codes}
+use Rattle.std.specs.Fmt.{decimal}
 use Rattle.std.specs.List.{AllZip}
 use Rattle.serde_json.specs.Data.{Data}
 use Rattle.serde_json.specs.Written.{compact_text}
@@ -15,7 +16,8 @@ use Rattle.iscc_text.specs.UnitText.{unit_text}
 use Rattle.iscc_text.specs.Explanations.{Explains}
 use Rattle.iscc_instance.specs.Instances.{instance_of}
 use Rattle.reg_top.specs.Files.{Files}
-use Rattle.reg_requests.specs.Lines.{line}
+use Rattle.reg_requests.specs.Lines.{line, spaced}
+use Rattle.reg_top.specs.SavedHistories.{HasLawfulHistory}
 use Rattle.reg_top.specs.Refusals.{IsTextOf}
 use Rattle.reg_top.specs.Output.{TakesWhole}
 
@@ -63,3 +65,20 @@ pub record IsInstanceLine (name : List ℕ) (files : Files) (output : List ℕ) 
 -- where the shelf tells its files, the sink has taken this line, and nothing else
 abbrev pub WritesInstance : List ℕ → Option Files → Option (List ℕ) → Option (List ℕ) → Type 0
 WritesInstance name files before after = IfSome files (λ map. (output : List ℕ) × IsInstanceLine name map output × TakesWhole before after output)
+
+-- the text that tells a lawful history
+abbrev pub lawful_text : ℕ → ℕ → List ℕ
+lawful_text rows live = spaced (codes "lawful" ∷ codes "rows" ∷ decimal rows ∷ codes "live" ∷ decimal live ∷ [])
+
+-- the output is the line that tells the lawful history of the file with this name
+pub record IsLawfulLine (name : List ℕ) (files : Files) (output : List ℕ) : Type 0 where
+  pub bytes : List ℕ
+  pub held : files name ≡ Some bytes
+  pub rows : ℕ
+  pub live : ℕ
+  pub lawful : HasLawfulHistory bytes rows live
+  pub printed : output ≡ line (lawful_text rows live)
+
+-- where the shelf tells its files, the sink has taken this line, and nothing else
+abbrev pub WritesCheck : List ℕ → Option Files → Option (List ℕ) → Option (List ℕ) → Type 0
+WritesCheck name files before after = IfSome files (λ map. (output : List ℕ) × IsLawfulLine name map output × TakesWhole before after output)

@@ -11,18 +11,20 @@ pub record RoundPlan : Type 0 where
   pub limits : Limits
   pub names : List (List ℕ)
 
--- what a command line asks: to serve the files of some rounds, to explain a text, to compose the units of some texts, or to give
--- the Instance-Code of a file
+-- what a command line asks: to serve the files of some rounds, to explain a text, to compose the units of some texts, to give
+-- the Instance-Code of a file, or to check the history that is saved in a file
 pub data Command : Type 0 where
   Run : List RoundPlan → Command
   Explain : List ℕ → Command
   Compose : List (List ℕ) → Command
   Instance : List ℕ → Command
+  Check : List ℕ → Command
 
 -- the names of the files that a command fetches, in order
 abbrev pub fetched_names : Command → List (List ℕ)
 fetched_names (Run plan) = flat_map (λ round. round.names) plan
 fetched_names (Instance name) = name ∷ []
+fetched_names (Check name) = name ∷ []
 fetched_names command = []
 
 -- a word that isn't empty and doesn't begin with `-`
@@ -69,12 +71,14 @@ IsForm words (Run plan) = (name : List ℕ) × IsRunOf words name × (plan ≡ p
 IsForm words (Explain text) = HasOneValue words (codes "explain") text
 IsForm words (Compose texts) = HasTexts words texts
 IsForm words (Instance name) = HasOneValue words (codes "instance") name
+IsForm words (Check name) = HasOneValue words (codes "check") name
 
 -- the first word of each command that serves nothing
 abbrev pub side_text : SideWord → List ℕ
 side_text side.Explain = codes "explain"
 side_text side.Compose = codes "compose"
 side_text side.Instance = codes "instance"
+side_text side.Check = codes "check"
 
 -- the first word is that of a command that serves nothing
 abbrev pub IsSideCommand : List (List ℕ) → Type 0

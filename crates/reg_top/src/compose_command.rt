@@ -50,7 +50,7 @@ fn compose_texts<K: Sink>(alloc: Global, words: &Args, sink: &mut K) -> Status
 fn composite(alloc: Global, words: &Args) -> Result<Code, Status>
     requires { 0 < length words.now }
     ensures composed { IfOk result (IsCompositeOf (drop 1 words.now)) }
-    ensures declines { IfErr result (Declines (Compose (drop 1 words.now))) }
+    ensures declines { (files : Option Files) → IfErr result (Declines (Compose (drop 1 words.now)) files) }
 {
     let units = match read_units(alloc, words) {
         Ok(units) => units,
@@ -66,7 +66,7 @@ fn composite(alloc: Global, words: &Args) -> Result<Code, Status>
 fn read_units(alloc: Global, words: &Args) -> Result<Vec<Unit>, Status>
     requires { 0 < length words.now }
     ensures read { IfOk result (λ units. AllZip IsTextOf (drop 1 words.now) units.items) }
-    ensures declines { IfErr result (Declines (Compose (drop 1 words.now))) }
+    ensures declines { (files : Option Files) → IfErr result (Declines (Compose (drop 1 words.now)) files) }
 {
     let mut units = Vec::new(alloc);
     for at in 0..words.len() - 1 {

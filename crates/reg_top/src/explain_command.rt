@@ -52,7 +52,7 @@ fn explain_text<K: Sink>(alloc: Global, text: &str, sink: &mut K) -> Status
 // The compact text of the tree that explains a code.
 fn explanation(alloc: Global, text: &str) -> Result<String, Status>
     ensures made { IfOk result (λ tree. IsExplanation text.now (line (string_bytes tree))) }
-    ensures declines { IfErr result (Declines (Explain text.now)) }
+    ensures declines { (files : Option Files) → IfErr result (Declines (Explain text.now) files) }
 {
     let iscc = match read_iscc(text.as_bytes()) {
         Ok(iscc) => iscc,

@@ -1,7 +1,7 @@
 ghost use Rattle.std.specs.Prelude.{◌≡◌, [], ◌∷◌, ◌++◌, codes};
 ghost use Rattle.std.specs.Fmt.{decimal};
 ghost use Rattle.reg_requests.specs.Lines.{line, spaced};
-ghost use Rattle.reg_top.specs.FaultLines.{Tells, IsTold, status_text, refusal_why, text_why, word_why, code_why, compose_why};
+ghost use Rattle.reg_top.specs.FaultLines.{Tells, IsTold, status_text, refusal_why, text_why, word_why, code_why, compose_why, line_why};
 
 use crate::refusal::{Refusal, WordFault};
 use crate::sink::{Failed, Sink};
@@ -10,6 +10,7 @@ use crate::write::{write_all, write_two};
 use iscc_code::{ComposeFault, IsccFault};
 use iscc_text::TextFault;
 use itoa::Buffer;
+use reg_history::{CheckFault, CheckWhy};
 
 /// Writes the line that tells a status, with the name of a file where it tells one. Takes no memory.
 ///
@@ -36,6 +37,8 @@ fn tell_refusal<K: Sink>(sink: &mut K, why: Refusal)
         Refusal::Text(fault) => tell_text(sink, fault),
         Refusal::Word { at, why } => tell_word(sink, at, why),
         Refusal::Units(fault) => tell(sink, b"fault 10 compose ", compose_fault(fault)),
+        Refusal::NoHistory => tell(sink, b"fault 10 line 0 none", b""),
+        Refusal::Line(fault) => tell_line(sink, fault),
     }
 }
 
@@ -57,6 +60,21 @@ fn tell_word<K: Sink>(sink: &mut K, at: usize, why: WordFault)
         return;
     }
     tell_word_fault(sink, why);
+}
+
+fn tell_line<K: Sink>(sink: &mut K, fault: CheckFault)
+    ensures { Tells (K.taken sink.old) (K.taken sink.new) (K.faults sink.old) (K.faults sink.new)
+        (line (codes "fault 10 " ++ spaced (codes "line" ∷ decimal fault.line ∷ line_why fault.why ∷ []))) }
+{
+    let mut buffer = Buffer::new();
+    if let Err(Failed) = write_two(
+        sink,
+        b"fault 10 line ",
+        buffer.format(fault.line).as_bytes(),
+    ) {
+        return;
+    }
+    tell(sink, b" ", line_fault(fault.why));
 }
 
 // The end of a line, with a space and the fault of a word.
@@ -107,6 +125,20 @@ fn compose_fault(fault: ComposeFault) -> &'static [u8]
         ComposeFault::NoInstance => b"no instance",
         ComposeFault::Narrow => b"narrow",
         ComposeFault::SubTypes => b"sub types",
+    }
+}
+
+fn line_fault(why: CheckWhy) -> &'static [u8]
+    ensures { result.now ≡ line_why why }
+{
+    match why {
+        CheckWhy::Form => b"form",
+        CheckWhy::Round => b"round",
+        CheckWhy::Session => b"session",
+        CheckWhy::Order => b"order",
+        CheckWhy::Point => b"point",
+        CheckWhy::Reply => b"reply",
+        CheckWhy::End => b"end",
     }
 }
 

@@ -11,6 +11,7 @@
 #![tactic(auto)]
 
 mod args;
+mod check_command;
 mod compose_command;
 mod explain_command;
 mod fault_line;
@@ -21,6 +22,7 @@ mod list_sink;
 mod refusal;
 mod replies;
 mod run;
+mod saved_history;
 mod serve;
 mod shelf;
 mod side_commands;

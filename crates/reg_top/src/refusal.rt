@@ -1,5 +1,6 @@
 use iscc_code::ComposeFault;
 use iscc_text::TextFault;
+use reg_history::CheckFault;
 
 /// Why a word that is to be composed stands for no unit.
 #[derive(Clone, Copy, Debug, PartialEq, Eq)]
@@ -19,4 +20,8 @@ pub enum Refusal {
     Word { at: usize, why: WordFault },
     /// The units have no composite.
     Units(ComposeFault),
+    /// No line of the file begins a history.
+    NoHistory,
+    /// This line of the history in the file, counted from 1, is the first that can't stand.
+    Line(CheckFault),
 }

@@ -10,13 +10,12 @@ ghost use Rattle.reg_requests.specs.TakenCodes.{HasCodeText, TakesCode};
 ghost use Rattle.reg_top.specs.declared.shelf.FetchFault.TheVariants.{Missing, TooLong};
 ghost use Rattle.reg_top.specs.Words.{plan_of, RoundPlan, IsForm, IsSideCommand};
 ghost use Rattle.reg_top.specs.Words.{Command};
-ghost use Rattle.reg_top.specs.Words.Command.{Run, Explain, Compose, Instance};
+ghost use Rattle.reg_top.specs.Words.Command.{Run, Explain, Compose, Instance, Check};
 ghost use Rattle.reg_top.specs.FaultLines.{TellsStatus};
-ghost use Rattle.reg_top.specs.Refusals.{IsRefused};
-ghost use Rattle.reg_top.specs.Ends.{StopsFetch, IsFetched, Ends, IsOutcome};
-ghost use Rattle.reg_top.specs.Statuses.{Exactly, HasNoForm, IsStopStatus, IsDone, IsAnswered, statuses, status_number};
+ghost use Rattle.reg_top.specs.Ends.{StopsFetch, Ends, IsOutcome};
+ghost use Rattle.reg_top.specs.Statuses.{Exactly, HasNoForm, IsStopStatus, IsFetched, IsRefusedStatus, IsDone, IsAnswered, statuses, status_number};
 ghost use Rattle.reg_top.specs.Output.{IsRunOutput, WritesRun};
-ghost use Rattle.reg_top.specs.SideOutput.{WritesExplanation, WritesComposition, WritesInstance};
+ghost use Rattle.reg_top.specs.SideOutput.{WritesExplanation, WritesComposition, WritesInstance, WritesCheck};
 ghost use Rattle.reg_top.specs.CommandOutput.{IsOutput, WritesFront};
 
 use crate::args::Args;
@@ -69,26 +68,30 @@ pub fn top<F: Shelf, K: Sink>(alloc: Global, words: &Args, shelf: &mut F, sink: 
     ensures instance { (name : List ℕ) → IsForm words.now (Instance name) → result ≡ 0
         → WritesInstance name (F.files shelf.old) (K.taken sink.old) (K.taken sink.new) }
 
+    // The output tells that the history in the named file is lawful, with its numbers of rows and of live declarations.
+    ensures check { (name : List ℕ) → IsForm words.now (Check name) → result ≡ 0
+        → WritesCheck name (F.files shelf.old) (K.taken sink.old) (K.taken sink.new) }
+
     // Each status has its cause, in this order.
     ensures words { Exactly result 2 (HasNoForm words.now) }
     ensures missing { IsStopStatus result 3 words.now (F.files shelf.old) Missing (F.fetch_faults shelf.old) (F.fetch_faults shelf.new) }
     ensures too_long { IsStopStatus result 7 words.now (F.files shelf.old) TooLong (F.fetch_faults shelf.old) (F.fetch_faults shelf.new) }
     ensures read { result ≡ 4 → Rose (F.fetch_faults shelf.old) (F.fetch_faults shelf.new) }
-    ensures refused { Exactly result 10 (IsRefused words.now) }
+    ensures refused { IsRefusedStatus result words.now (F.files shelf.old) (F.fetch_faults shelf.old) (F.fetch_faults shelf.new) }
     ensures write { result ≡ 5 → Rose (K.faults sink.old) (K.faults sink.new) }
     ensures known { Contains statuses result }
 
-    // Without faults, accepted words, files and texts are served, or memory is wanting; where no file is fetched, whatever the
+    // Without faults, accepted words, files, texts and histories are served, or memory is wanting; where no file is fetched, whatever the
     // shelf's faults are.
     ensures done { Quiet (F.fetch_faults shelf.old) (F.fetch_faults shelf.new) → Quiet (K.faults sink.old) (K.faults sink.new)
         → IsDone result words.now (F.files shelf.old) }
-    ensures answered { Quiet (K.faults sink.old) (K.faults sink.new) → IsAnswered result words.now }
+    ensures answered { Quiet (K.faults sink.old) (K.faults sink.new) → IsAnswered result words.now (F.files shelf.old) }
 
     // What the sink and the shelf have afterwards.
     ensures cut_short { (command : Command) → IsForm words.now command → result ≡ 5
         → WritesFront command (F.files shelf.old) (K.taken sink.old) (K.taken sink.new) }
     ensures told { result ≢ 0 → result ≢ 5
-        → TellsStatus words.now result (K.taken sink.old) (K.taken sink.new) (K.faults sink.old) (K.faults sink.new) }
+        → TellsStatus words.now (F.files shelf.old) result (K.taken sink.old) (K.taken sink.new) (K.faults sink.old) (K.faults sink.new) }
     ensures same { F.files shelf.new ≡ F.files shelf.old }
 {
     match side(alloc, words, shelf, sink) {

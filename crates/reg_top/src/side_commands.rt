@@ -3,6 +3,7 @@ ghost use Rattle.reg_top.specs.Words.{IsSideCommand};
 ghost use Rattle.reg_top.specs.Ends.{IsOutcome};
 
 use crate::args::Args;
+use crate::check_command::check_command;
 use crate::compose_command::compose_command;
 use crate::explain_command::explain_command;
 use crate::instance_command::instance_command;
@@ -11,7 +12,7 @@ use crate::sink::Sink;
 use crate::words::{SideWord, side_word};
 use std::alloc::Global;
 
-/// Does the commands that serve no calls, which are `explain`, `compose` and `instance`, and answers the status. Always returns.
+/// Does the commands that serve no calls, which are `explain`, `compose`, `instance` and `check`, and answers the status. Always returns.
 ///
 /// None comes exactly where the first word is none of these; then nothing was touched.
 pub fn side<F: Shelf, K: Sink>(
@@ -33,5 +34,6 @@ pub fn side<F: Shelf, K: Sink>(
         Some(SideWord::Explain) => Some(explain_command(alloc, words, sink).number()),
         Some(SideWord::Compose) => Some(compose_command(alloc, words, sink).number()),
         Some(SideWord::Instance) => Some(instance_command(alloc, words, shelf, sink).number()),
+        Some(SideWord::Check) => Some(check_command(alloc, words, shelf, sink).number()),
     }
 }

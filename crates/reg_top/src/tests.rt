@@ -141,7 +141,7 @@ fn the_last_entry_is_taken_and_one_more_declaration_is_refused(
 #[test]
 fn other_words_are_refused_before_anything_is_fetched(rt: HostRuntime) -> Result<(), Fail> {
     let alloc = rt.alloc();
-    let lists: [&[&str]; 24] = [
+    let lists: [&[&str]; 29] = [
         &[],
         &["run"],
         &["run", ""],
@@ -164,7 +164,12 @@ fn other_words_are_refused_before_anything_is_fetched(rt: HostRuntime) -> Result
         &["instance", ""],
         &["instance", "-"],
         &["instance", "a.txt", "a.txt"],
-        &["check", "a.txt"],
+        &["check"],
+        &["check", ""],
+        &["check", "-"],
+        &["check", "-x"],
+        &["check", "a.txt", "a.txt"],
+        &["Check", "a.txt"],
         &["a.txt"],
     ];
     for list in lists {

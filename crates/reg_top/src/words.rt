@@ -27,6 +27,7 @@ pub enum SideWord {
     Explain,
     Compose,
     Instance,
+    Check,
 }
 
 /// Which command that serves nothing the first word names, if it names one.
@@ -46,6 +47,9 @@ pub(crate) fn side_word(words: &Args) -> Option<SideWord>
     }
     if word == "instance" {
         return Some(SideWord::Instance);
+    }
+    if word == "check" {
+        return Some(SideWord::Check);
     }
     None
 }

@@ -156,27 +156,30 @@ fn a_file_longer_than_a_request_file_gets_a_code(rt: HostRuntime) -> Result<(), 
 }
 
 #[test]
-fn a_file_without_a_code_is_told_by_its_name(rt: HostRuntime) -> Result<(), Fail> {
+fn a_file_that_is_not_read_is_told_by_its_name(rt: HostRuntime) -> Result<(), Fail> {
     let cases: [(&str, &[u64], u8, &str); 3] = [
         ("b.txt", &[], 3, "fault 3 missing b.txt\n"),
         ("/", &[], 3, "fault 3 missing /\n"),
         ("a.txt", &[0], 4, "fault 4 read a.txt\n"),
     ];
     for (name, fail, want, line) in cases {
-        let (status, output) = side_text(rt.alloc(), &["instance", name], b"", fail)?;
-        assert_eq!(rt; status, Some(want));
-        assert_eq!(rt; output.as_str(), line);
+        for command in ["instance", "check"] {
+            let (status, output) = side_text(rt.alloc(), &[command, name], b"", fail)?;
+            assert_eq!(rt; status, Some(want));
+            assert_eq!(rt; output.as_str(), line);
+        }
     }
     Ok(())
 }
 
 #[test]
 fn other_first_words_leave_shelf_and_sink_untouched(rt: HostRuntime) -> Result<(), Fail> {
-    let lists: [&[&str]; 5] = [
+    let lists: [&[&str]; 6] = [
         &[],
         &["run", "a.txt"],
         &["Explain", "AAA"],
         &["instances", "a.txt"],
+        &["checks", "a.txt"],
         &[""],
     ];
     for list in lists {
@@ -195,5 +198,184 @@ fn a_code_that_is_cut_has_a_front_of_its_line(rt: HostRuntime) -> Result<(), Fai
     let words = words_of(alloc, &["instance", "a.txt"])?;
     assert_eq!(rt; side(alloc, &words, &mut shelf, &mut sink), Some(5));
     assert_eq!(rt; taken_text(alloc, &sink)?.as_str(), "ISCC:IAAWI");
+    Ok(())
+}
+
+// The lines of a small history.
+const HEAD: &str = "iscc-history 1";
+
+const ROUND: &str = "round 0 base 0 entries 4096 log 65536 callers 1";
+
+const FIRST: &str = "0.0 @1 declare ISCC:AAAQAAAAAAAAAAAA = id 0";
+
+const SECOND: &str = "0.1 @2 declare ISCC:AAAQAAAAAAAAAAAB = id 1";
+
+const NEAR: &str =
+    "0.2 @2 near ISCC:AAAQAAAAAAAAAAAA 1 = hits 2 0,0,ISCC:AAAQAAAAAAAAAAAA 1,1,ISCC:AAAQAAAAAAAAAAAB";
+
+const WITHDRAW: &str = "0.1 @2 withdraw 0 = withdrawn 0";
+
+const END: &str = "end 3 live 2";
+
+// The status of a check of a file with these lines, and what the sink has taken.
+fn check_lines(alloc: Global, lines: &[&str]) -> Result<(Option<u8>, String), Fail> {
+    let mut file = Vec::new(alloc);
+    for line in lines {
+        file.extend_from_slice(line.as_bytes())?;
+        file.push(b'\n')?;
+    }
+    side_text(alloc, &["check", "a.txt"], file.as_slice(), &[])
+}
+
+#[test]
+fn a_lawful_history_is_told_with_its_numbers(rt: HostRuntime) -> Result<(), Fail> {
+    let cases: [(&[&str], &str); 4] = [
+        (
+            &[HEAD, ROUND, FIRST, SECOND, NEAR, END],
+            "lawful rows 3 live 2\n",
+        ),
+        (
+            &[
+                HEAD,
+                ROUND,
+                FIRST,
+                WITHDRAW,
+                "0.2 @2 count = count 0",
+                "end 3 live 0",
+            ],
+            "lawful rows 3 live 0\n",
+        ),
+        (&[HEAD, ROUND, "end 0 live 0"], "lawful rows 0 live 0\n"),
+        // The replies of a run, which stand before its history, are passed.
+        (
+            &[
+                "replies 0 0",
+                "id 0",
+                "id 1",
+                "hits 2 0,0,ISCC:AAAQAAAAAAAAAAAA 1,1,ISCC:AAAQAAAAAAAAAAAB",
+                HEAD,
+                ROUND,
+                FIRST,
+                SECOND,
+                NEAR,
+                END,
+            ],
+            "lawful rows 3 live 2\n",
+        ),
+    ];
+    for (lines, want) in cases {
+        let (status, output) = check_lines(rt.alloc(), lines)?;
+        assert_eq!(rt; output.as_str(), want);
+        assert_eq!(rt; status, Some(0));
+    }
+    Ok(())
+}
+
+#[test]
+fn the_first_line_that_cannot_stand_is_told(rt: HostRuntime) -> Result<(), Fail> {
+    let cases: [(&[&str], &str); 9] = [
+        (
+            &[HEAD, ROUND, SECOND, FIRST, NEAR, END],
+            "fault 10 line 3 session\n",
+        ),
+        (
+            &[
+                HEAD,
+                ROUND,
+                FIRST,
+                "0.1 @3 declare ISCC:AAAQAAAAAAAAAAAB = id 1",
+                NEAR,
+                END,
+            ],
+            "fault 10 line 4 point\n",
+        ),
+        (
+            &[
+                HEAD,
+                ROUND,
+                FIRST,
+                SECOND,
+                "0.2 @2 near ISCC:AAAQAAAAAAAAAAAA 1 = hits 1 0,0,ISCC:AAAQAAAAAAAAAAAA",
+                END,
+            ],
+            "fault 10 line 5 reply\n",
+        ),
+        (
+            &[
+                HEAD,
+                ROUND,
+                FIRST,
+                WITHDRAW,
+                "0.2 @2 count = count 1",
+                "end 3 live 0",
+            ],
+            "fault 10 line 5 reply\n",
+        ),
+        (&[HEAD, ROUND, FIRST, SECOND, NEAR], "fault 10 line 6 end\n"),
+        (
+            &[HEAD, ROUND, FIRST, SECOND, NEAR, "end 3 live 3"],
+            "fault 10 line 6 end\n",
+        ),
+        (
+            &[HEAD, ROUND, FIRST, SECOND, NEAR, END, END],
+            "fault 10 line 7 end\n",
+        ),
+        // The lines are counted from that on which begins the history; a second such line is of no form that is allowed there.
+        (
+            &["replies 0 0", "id 0", HEAD, HEAD, ROUND, "end 0 live 0"],
+            "fault 10 line 2 form\n",
+        ),
+        (
+            &["replies 0 0", "id 0", HEAD, ROUND, SECOND],
+            "fault 10 line 3 session\n",
+        ),
+    ];
+    for (lines, want) in cases {
+        let (status, output) = check_lines(rt.alloc(), lines)?;
+        assert_eq!(rt; output.as_str(), want);
+        assert_eq!(rt; status, Some(10));
+    }
+    Ok(())
+}
+
+#[test]
+fn a_file_without_a_history_is_told(rt: HostRuntime) -> Result<(), Fail> {
+    let cases: [&[u8]; 8] = [
+        b"",
+        b"\n",
+        b"replies 0 0\nid 0\n",
+        b"iscc-history 2\n",
+        b"iscc-history 1 \n",
+        b"iscc-history 1\r\n",
+        b" iscc-history 1",
+        b"replies 0 0iscc-history 1\niscc-history",
+    ];
+    for file in cases {
+        let (status, output) = side_text(rt.alloc(), &["check", "a.txt"], file, &[])?;
+        assert_eq!(rt; status, Some(10));
+        assert_eq!(rt; output.as_str(), "fault 10 line 0 none\n");
+    }
+    Ok(())
+}
+
+#[test]
+fn a_history_may_begin_in_the_last_line(rt: HostRuntime) -> Result<(), Fail> {
+    for file in [b"iscc-history 1".as_slice(), b"id 0\niscc-history 1"] {
+        let (status, output) = side_text(rt.alloc(), &["check", "a.txt"], file, &[])?;
+        // It has no line feed, as each line of a history has.
+        assert_eq!(rt; output.as_str(), "fault 10 line 1 form\n");
+        assert_eq!(rt; status, Some(10));
+    }
+    Ok(())
+}
+
+#[test]
+fn the_output_of_a_run_is_checked_as_it_is(rt: HostRuntime) -> Result<(), Fail> {
+    let alloc = rt.alloc();
+    let (run_status, saved) = run_text(alloc, NEAR_TWO)?;
+    assert_eq!(rt; run_status, 0);
+    let (status, output) = side_text(alloc, &["check", "a.txt"], saved.as_bytes(), &[])?;
+    assert_eq!(rt; output.as_str(), "lawful rows 3 live 2\n");
+    assert_eq!(rt; status, Some(0));
     Ok(())
 }

@@ -11,4 +11,4 @@ returns-then-not-has_texts g c = λ files count.
 pub returns : goal.returns
 returns g c = λ files count.
     let words = c.args.words.now in
-    outcome words (Compose (drop 1 words)) files count count _ _ _ _ _ (compose_form words c.requires (c.has_texts.ensures.0 c.if-not-has_texts.false)) (c.compose_texts.ensures files count)
+    outcome words (Compose (drop 1 words)) files count count _ _ _ _ _ (compose_form words c.requires (c.has_texts.ensures.0 c.if-not-has_texts.false)) (c.compose_texts.ensures files count) (λ answers. tt)

@@ -15,6 +15,6 @@ returns-in-Ok-compose-clause-composed c =
     }
 
 pub returns-clause-declines : goal.returns-clause-declines
-returns-clause-declines c =
+returns-clause-declines c = λ files.
     let either = c.in-Err-compose.ensures.fault c.in-Err-compose.fault in
     (c.in-Ok.units.items, c.in-Ok.ensures.read, subst (λ us. compose_fault us ≡ Some c.in-Err-compose.fault) c.as_slice.ensures.value (either.0 refl))

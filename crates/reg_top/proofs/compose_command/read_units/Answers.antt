@@ -3,7 +3,7 @@ use Rattle.reg_top.proofs.Compositions.{behind_first, read_more, refused_at}
 use Rattle.reg_top.proofs.compose_command.read_units.Goals as goal
 
 pub returns-in-Err-clause-declines : goal.returns-in-Err-clause-declines
-returns-in-Err-clause-declines c =
+returns-in-Err-clause-declines c = λ files.
     let words = c.args.words.now in
     let text = c.word.result.now in
     refused_at (drop 1 words) c.loop-at.at text c.loop-at.units.items c.in-Err.why

@@ -9,4 +9,4 @@ returns-in-None g c = λ files count.
 
 pub returns-in-Some : goal.returns-in-Some
 returns-in-Some g c = λ files count.
-    outcome c.args.words.now (Explain c.in-Some.text.now) files count count _ _ _ _ _ c.in-Some.ensures.found (c.explain_text.ensures files count)
+    outcome c.args.words.now (Explain c.in-Some.text.now) files count count _ _ _ _ _ c.in-Some.ensures.found (c.explain_text.ensures files count) (λ answers. tt)

@@ -9,4 +9,4 @@ returns-in-None-clause-outcome g c =
 
 pub returns-in-Some-clause-outcome : goal.returns-in-Some-clause-outcome
 returns-in-Some-clause-outcome g c =
-    outcome c.args.words.now (Instance c.in-Some.name.now) _ _ _ _ _ _ _ _ c.in-Some.ensures.found c.instance_file.ensures.ends
+    outcome c.args.words.now (Instance c.in-Some.name.now) _ _ _ _ _ _ _ _ c.in-Some.ensures.found c.instance_file.ensures.ends (λ answers. tt)

@@ -1,11 +1,9 @@
-use Rattle.std.proofs.Common.{◌≡◌, List, [], ◌∷◌, ◌++◌, map, sym, ◌∙◌, ap, subst, rules, arith}
+use Rattle.std.proofs.Common.{◌≡◌, [], ◌∷◌, ◌++◌, sym, ◌∙◌, ap, subst, rules, arith}
 use Rattle.std.specs.Prelude.{codes}
 use Rattle.std.specs.Fmt.{decimal}
-use Rattle.reg_model.specs.declared.reply.Row.{Row}
 use Rattle.reg_model.specs.declared.round.Round.{Round}
 use Rattle.reg_model.specs.Limits.{Limits}
 use Rattle.reg_model.specs.Opening.{Opening}
-use Rattle.reg_model.specs.Rows.{IsLawful}
 use Rattle.reg_model.specs.Runs.{nothing}
 use Rattle.reg_requests.specs.Lines.{line, spaced}
 use Rattle.reg_requests.specs.Requests.{calls_of}

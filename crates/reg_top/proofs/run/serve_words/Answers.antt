@@ -12,4 +12,4 @@ returns-in-None-clause-outcome g c =
 pub returns-in-Some-clause-outcome : goal.returns-in-Some-clause-outcome
 returns-in-Some-clause-outcome g c =
     let name = c.in-Some.name.now in
-    outcome c.args.words.now (Run (plan_of name)) _ _ _ _ _ _ _ _ (name, c.in-Some.ensures.found, refl) c.run.ensures.ends
+    outcome c.args.words.now (Run (plan_of name)) _ _ _ _ _ _ _ _ (name, c.in-Some.ensures.found, refl) c.run.ensures.ends (λ answers. tt)
