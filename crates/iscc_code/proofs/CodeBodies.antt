@@ -79,7 +79,7 @@ pub length-code_body : (code : CodeParts) → length (code_body code) ≡ 8 * un
 unfolding code_body
 length-code_body code = length-bodies (code_units code) ∙ ap (λ n. 8 * n) (length-code_units code)
 
--- a code's SubType is small
+-- an ISCC-CODE's SubType is small
 pub code_sub-small : (len sub : ℕ) → is_code_sub len sub ≡ true → sub ≤ 6
 unfolding is_code_sub
 code_sub-small len sub h =

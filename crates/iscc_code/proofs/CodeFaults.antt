@@ -17,8 +17,8 @@ use Rattle.iscc_code.specs.declared.iscc.Iscc.TheVariants as codes
 use Rattle.iscc_code.specs.declared.iscc.IsccFault.TheVariants as faults
 use Rattle.iscc_code.proofs.CodeBodies.{code_len-small, length-code_body}
 
--- a header that some code has
-pub record IsCodeHeader (header : Numbers) : Type 0 where
+-- a header that some ISCC has
+pub record IsIsccHeader (header : Numbers) : Type 0 where
   pub main : header.main ≤ 5
   pub version : header.version ≡ 0
   pub len : header.len ≤ 7
@@ -40,16 +40,16 @@ pub sub_fault : (h : Numbers) (body : List ℕ) → h.main ≤ 5 → h.version �
 unfolding fault_of
 sub_fault h body m v l k = rw (le-ltb 5 h.main m, eq-eqb h.version 0 v, le-ltb 7 h.len l, k) refl
 
-pub short_fault : (h : Numbers) (body : List ℕ) → IsCodeHeader h → length body < body_len h.main h.len → fault_of h body ≡ Some faults.Short
+pub short_fault : (h : Numbers) (body : List ℕ) → IsIsccHeader h → length body < body_len h.main h.len → fault_of h body ≡ Some faults.Short
 unfolding fault_of
 short_fault h body u s = rw (le-ltb 5 h.main u.main, eq-eqb h.version 0 u.version, le-ltb 7 h.len u.len, u.sub, lt-ltb (length body) (body_len h.main h.len) s) refl
 
-pub long_fault : (h : Numbers) (body : List ℕ) → IsCodeHeader h → body_len h.main h.len < length body → fault_of h body ≡ Some faults.Long
+pub long_fault : (h : Numbers) (body : List ℕ) → IsIsccHeader h → body_len h.main h.len < length body → fault_of h body ≡ Some faults.Long
 unfolding fault_of
 long_fault h body u s =
     rw (le-ltb 5 h.main u.main, eq-eqb h.version 0 u.version, le-ltb 7 h.len u.len, u.sub, le-ltb (length body) (body_len h.main h.len) (omega arith), lt-ltb (body_len h.main h.len) (length body) s) refl
 
-pub no_fault : (h : Numbers) (body : List ℕ) → IsCodeHeader h → length body ≡ body_len h.main h.len → fault_of h body ≡ None
+pub no_fault : (h : Numbers) (body : List ℕ) → IsIsccHeader h → length body ≡ body_len h.main h.len → fault_of h body ≡ None
 unfolding fault_of
 no_fault h body u s =
     rw (le-ltb 5 h.main u.main, eq-eqb h.version 0 u.version, le-ltb 7 h.len u.len, u.sub, le-ltb (length body) (body_len h.main h.len) (omega arith), le-ltb (body_len h.main h.len) (length body) (omega arith)) refl
@@ -72,10 +72,10 @@ pub composite_body_len : (main len : ℕ) → main ≡ 5 → body_len main len �
 unfolding body_len
 composite_body_len main len m = rw (eq-eqb main 5 m) refl
 
-pub unit_header_from : (h : Numbers) → h.main ≤ 4 → h.version ≡ 0 → h.len ≤ 7 → is_kind h.main h.sub ≡ true → IsCodeHeader h
+pub unit_header_from : (h : Numbers) → h.main ≤ 4 → h.version ≡ 0 → h.len ≤ 7 → is_kind h.main h.sub ≡ true → IsIsccHeader h
 unit_header_from h m v l k = record { main = omega arith; version = v; len = l; sub = unit_sub h.main h.sub h.len m ∙ k }
 
-pub composite_header_from : (h : Numbers) → h.main ≡ 5 → h.version ≡ 0 → h.len ≤ 7 → is_code_sub h.len h.sub ≡ true → IsCodeHeader h
+pub composite_header_from : (h : Numbers) → h.main ≡ 5 → h.version ≡ 0 → h.len ≤ 7 → is_code_sub h.len h.sub ≡ true → IsIsccHeader h
 composite_header_from h m v l k = record { main = omega arith; version = v; len = l; sub = composite_sub h.main h.sub h.len m ∙ k }
 
 -- each kind's pair is one of the table
@@ -121,7 +121,7 @@ kind_above main sub h =
 pub length_of_body : (n : ℕ) → IsBodyLength n → (n ≡ 4 * (n / 4 - 1 + 1)) × (n / 4 - 1 ≤ 7)
 length_of_body n h = (omega (arith, h.least, h.most, h.fours), omega (arith, h.least, h.most, h.fours))
 
-unit_header_is : (unit : UnitParts) → IsUnit unit → IsCodeHeader (unit_header unit)
+unit_header_is : (unit : UnitParts) → IsUnit unit → IsIsccHeader (unit_header unit)
 unit_header_is unit h =
     let small = small_pair unit.kind h.kind in
     record {
@@ -131,7 +131,7 @@ unit_header_is unit h =
       sub = unit_sub (main_of unit.kind) (sub_of unit.kind) (length unit.body / 4 - 1) (omega (arith, small.0)) ∙ is_kind-pair unit.kind h.kind;
     }
 
-composite_header_is : (code : CodeParts) → IsCode code → IsCodeHeader (code_header code)
+composite_header_is : (code : CodeParts) → IsCode code → IsIsccHeader (code_header code)
 composite_header_is code h = record {
   main = lit≤ tt;
   version = refl;

@@ -1,38 +1,32 @@
 -- The composite of units that were found by their MainTypes.
-use Rattle.std.proofs.Common.{◌≡◌, ℕ, ◌+◌, ◌<◌, List, [], ◌∷◌, ◌++◌, map, Bool, true, false, Option, Some, None, Result, Ok, Err, refl, sym, ◌∙◌, ap, ap₂, subst}
-use Rattle.std.specs.Prelude.{◌==◌, ◌||◌, not, nat_lt, IfSome, IfOk, ◌↔◌, IsPermutation, is_some, if◌then◌else◌}
+use Rattle.std.proofs.Common.{◌≡◌, ℕ, ◌+◌, List, [], ◌∷◌, ◌++◌, map, Bool, true, false, Option, Some, None, Result, Ok, Err, refl, sym, ◌∙◌, ap, ap₂, subst}
+use Rattle.std.specs.Prelude.{◌==◌, ◌||◌, not, nat_lt, IfSome, IfOk, ◌↔◌, IsPermutation, is_some}
 use Rattle.std.specs.Option.{option_map, option_to_list}
 use Rattle.std.proofs.lemmas.Bool.{eqb-true, lt-ltb, false≢true}
 use Rattle.std.proofs.lemmas.List.{map-append}
 use Rattle.std.proofs.lemmas.List.Sorted.{IsPermutation-map}
-use Rattle.iscc_header.specs.Kinds.{main_of, sub_of}
+use Rattle.iscc_header.specs.Kinds.{sub_of}
 use Rattle.iscc_header.specs.declared.unit.Unit64.{Unit64}
-use Rattle.iscc_header.proofs.EachBelow.{each_below}
 use Rattle.iscc_header.proofs.KindFacts.{small_pair}
 use Rattle.iscc_code.specs.Units.{UnitParts, IsUnit, first_bits, first64_of}
 use Rattle.iscc_code.specs.Composites.{CodeParts, IsCode, unit_if, code_units, code_len, is_code_sub, of_main, subs_differ, has_narrow, compose_fault, has_twice, IsComposite}
-use Rattle.iscc_code.specs.Joined.{ComposesTo, FitsMain, in_order, sub_from}
+use Rattle.iscc_code.specs.inner.Joined.{ComposesTo, FitsMain, in_order, sub_from}
 use Rattle.iscc_code.specs.declared.composing.ComposeFault.{ComposeFault}
 use Rattle.iscc_code.specs.declared.composing.ComposeFault.TheVariants as faults
+use Rattle.iscc_code.specs.inner.KindNumbers.{kind_from}
+use Rattle.iscc_code.proofs.CodeUnits.{kind_from-pair}
 use Rattle.iscc_code.proofs.GivenUnits.{by_main, by_main-permutation, main_found, wide_found}
 use Rattle.std.proofs.lemmas.Option.{none-some, same_Some}
-
--- the number of a kind, by its pair
-abbrev kind_from : ℕ → ℕ → ℕ
-kind_from main sub = if main == 0 then 0 else if main == 1 then 1 + sub else if main == 2 then 6 + sub else if main == 3 then 11 else 12
-
-kind_from-pair : (k : ℕ) → k < 13 → kind_from (main_of k) (sub_of k) ≡ k
-kind_from-pair k h = eqb-true _ _ (each_below 13 (λ k. kind_from (main_of k) (sub_of k) == k) refl k h)
 
 kind_is : (main : ℕ) (u : UnitParts) → FitsMain main u → kind_from main (sub_of u.kind) ≡ u.kind
 kind_is main u f = ap (λ m. kind_from m (sub_of u.kind)) (sym f.its_main) ∙ kind_from-pair u.kind f.valid.kind
 
--- a unit of a code, and the unit that it came from
+-- a unit of an ISCC-CODE, and the unit that it came from
 unit_if-first64 : (kind : ℕ) (o : Option UnitParts) → IfSome o (λ u. kind ≡ u.kind) → unit_if kind (option_map (λ (u : UnitParts). first_bits u.body) o) ≡ map first64_of (option_to_list o)
 unit_if-first64 kind None h = refl
 unit_if-first64 kind (Some u) h = ap (λ k. record { kind = k; body = first_bits u.body } ∷ []) h
 
--- the code of these units
+-- the ISCC-CODE of these units
 unfoldable pub code_of_units : Option UnitParts → Option UnitParts → Option UnitParts → UnitParts → UnitParts → CodeParts
 code_of_units meta semantic content d i = record {
   meta_body = option_map (λ (u : UnitParts). first_bits u.body) meta;

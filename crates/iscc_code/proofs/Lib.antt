@@ -5,4 +5,5 @@ pub mod CodeUnits
 pub mod Composed
 pub mod GivenUnits
 pub mod OneCode
+pub mod OneComposite
 pub mod ShortHeaders

@@ -1,12 +1,12 @@
--- Bytes spell one code at most, or have one first fault.
+-- Bytes encode one ISCC at most, or have one first fault.
 use Rattle.std.proofs.Common.{◌≡◌, ℕ, List, ◌++◌, length, Some, Result, Ok, Err, refl, sym, ◌∙◌, ap, ap₂, inl, inr, arith, subst}
 use Rattle.std.specs.Prelude.{◌⊎◌, is_ok, MatchResult}
 use Rattle.std.proofs.lemmas.List.{append_cancel_left}
 use Rattle.std.proofs.lemmas.Bool.{false≢true}
 use Rattle.std.proofs.lemmas.Option.{none-some, same_Some}
-use Rattle.iscc_header.specs.Headers.{Numbers, SpellsHeader}
+use Rattle.iscc_header.specs.Headers.{Numbers, EncodesHeader}
 use Rattle.iscc_header.specs.Kinds.{main_of, sub_of}
-use Rattle.iscc_header.specs.Reading.{ReadsHeader}
+use Rattle.iscc_header.specs.inner.Reading.{ReadsHeader}
 use Rattle.iscc_header.specs.declared.header.HeaderFault.{HeaderFault}
 use Rattle.iscc_header.specs.declared.header.HeaderFault.TheVariants as header_faults
 use Rattle.iscc_header.proofs.HeaderReading.{one_header, header_complete, header_short, header_lacking, header_padding}
@@ -14,7 +14,8 @@ use Rattle.iscc_header.proofs.BitLists.{same_bytes}
 use Rattle.iscc_header.proofs.KindFacts.{same_kind, kind_pair, small_pair}
 use Rattle.iscc_code.specs.Units.{UnitParts, IsUnit, unit_header}
 use Rattle.iscc_code.specs.Composites.{CodeParts, code_header}
-use Rattle.iscc_code.specs.Codes.{IsHeaderAndBody, IsIscc, header_of, body_of, SpellsIscc, HasHeaderFault, HasBodyFault, HasFault, DecodesTo, HasParts, IsFirstFault, IsBehindHeader, fault_of}
+use Rattle.iscc_code.specs.Codes.{IsHeaderAndBody, IsIscc, header_of, body_of, EncodesIscc, HasHeaderFault, HasBodyFault, HasFault, fault_of}
+use Rattle.iscc_code.specs.inner.Decoding.{DecodesTo, HasParts, IsFirstFault, IsBehindHeader}
 use Rattle.iscc_code.specs.declared.iscc.Iscc.{Iscc}
 use Rattle.iscc_code.specs.declared.iscc.Iscc.TheVariants as codes
 use Rattle.iscc_code.specs.declared.iscc.IsccFault.{IsccFault}
@@ -26,7 +27,7 @@ use Rattle.iscc_code.proofs.CodeFaults.{no_fault_in}
 pub same_parts : (bytes : List ℕ) (g h : Numbers) (x y : List ℕ) → IsHeaderAndBody bytes g x → IsHeaderAndBody bytes h y → (g ≡ h) × (x ≡ y)
 same_parts bytes g h x y a b =
     let both : a.front ++ x ≡ b.front ++ y = sym a.whole ∙ b.whole in
-    let same = one_header g h a.front b.front x y a.spelled b.spelled both in
+    let same = one_header g h a.front b.front x y a.encoded b.encoded both in
     (same.0, append_cancel_left b.front x y (ap (λ front. front ++ x) (sym same.1) ∙ both))
 
 -- a unit is told by its header and its body
@@ -44,18 +45,18 @@ unit_or_composite u c h e =
     let main : main_of u.kind ≡ 5 = ap (λ (n : Numbers). n.main) e in
     omega (arith, (small_pair u.kind h.kind).0, main)
 
--- a code is told by its header and its body
-same_code_from : (a b : Iscc) → IsIscc a → IsIscc b → header_of a ≡ header_of b → body_of a ≡ body_of b → a ≡ b
-same_code_from (codes.Unit u) (codes.Unit v) h k header body = ap codes.Unit (same_unit u v h k header body)
-same_code_from (codes.Unit u) (codes.Code c) h k header body = absurd (unit_or_composite u c h header)
-same_code_from (codes.Code c) (codes.Unit u) h k header body = absurd (unit_or_composite u c k (sym header))
-same_code_from (codes.Code c) (codes.Code d) h k header body =
+-- an ISCC is told by its header and its body
+same_iscc_from : (a b : Iscc) → IsIscc a → IsIscc b → header_of a ≡ header_of b → body_of a ≡ body_of b → a ≡ b
+same_iscc_from (codes.Unit u) (codes.Unit v) h k header body = ap codes.Unit (same_unit u v h k header body)
+same_iscc_from (codes.Unit u) (codes.Code c) h k header body = absurd (unit_or_composite u c h header)
+same_iscc_from (codes.Code c) (codes.Unit u) h k header body = absurd (unit_or_composite u c k (sym header))
+same_iscc_from (codes.Code c) (codes.Code d) h k header body =
     ap codes.Code (same_composite c d h k (ap (λ (n : Numbers). n.len) header) (ap (λ (n : Numbers). n.sub) header) body)
 
-pub same_code : (a b : Iscc) (bytes : List ℕ) → SpellsIscc a bytes → SpellsIscc b bytes → a ≡ b
-same_code a b bytes s t =
+pub same_iscc : (a b : Iscc) (bytes : List ℕ) → EncodesIscc a bytes → EncodesIscc b bytes → a ≡ b
+same_iscc a b bytes s t =
     let same = same_parts bytes (header_of a) (header_of b) (body_of a) (body_of b) s.parts t.parts in
-    same_code_from a b s.valid t.valid same.0 same.1
+    same_iscc_from a b s.valid t.valid same.0 same.1
 
 -- the answer of a reader of headers that has this fault
 reads_fault : (bytes : List ℕ) (fault : HeaderFault) → HasHeaderFault bytes fault → ReadsHeader bytes (Err fault)
@@ -66,7 +67,7 @@ reads_fault bytes header_faults.Padding h = h
 -- no header, or one
 headless : (bytes : List ℕ) (fault : HeaderFault) (h : Numbers) (body : List ℕ) → HasHeaderFault bytes fault → IsHeaderAndBody bytes h body → ⊥
 headless bytes fault h body f p =
-    let other : Err fault ≡ Ok (h, length p.front) = header_complete bytes (Err fault) h p.front body (reads_fault bytes fault f) p.spelled p.whole in
+    let other : Err fault ≡ Ok (h, length p.front) = header_complete bytes (Err fault) h p.front body (reads_fault bytes fault f) p.encoded p.whole in
     false≢true (ap is_ok other)
 
 same_header_fault : (bytes : List ℕ) (f g : HeaderFault) → HasHeaderFault bytes f → HasHeaderFault bytes g → f ≡ g
@@ -98,15 +99,15 @@ same_fault bytes f g (inl a) (inr b) = absurd (headless bytes a.0 b.header b.bod
 same_fault bytes f g (inr a) (inl b) = absurd (headless bytes b.0 a.header a.body b.2 a.parts)
 same_fault bytes f g (inr a) (inr b) = same_body_fault bytes f g a b
 
--- a code has no fault
-faultless : (iscc : Iscc) (bytes : List ℕ) (fault : IsccFault) → SpellsIscc iscc bytes → Cases bytes fault → ⊥
+-- an ISCC has no fault
+faultless : (iscc : Iscc) (bytes : List ℕ) (fault : IsccFault) → EncodesIscc iscc bytes → Cases bytes fault → ⊥
 faultless iscc bytes fault s (inl a) = headless bytes a.0 (header_of iscc) (body_of iscc) a.2 s.parts
 faultless iscc bytes fault s (inr a) =
     let same = same_parts bytes (header_of iscc) a.header (body_of iscc) a.body s.parts a.parts in
     none-some fault (sym (no_fault_in iscc s.valid) ∙ ap₂ fault_of same.0 same.1 ∙ a.first)
 
 pub one_answer : (bytes : List ℕ) (a b : Result Iscc IsccFault) → DecodesTo bytes a → DecodesTo bytes b → a ≡ b
-one_answer bytes (Ok u) (Ok v) a b = ap Ok (same_code u v bytes a b)
+one_answer bytes (Ok u) (Ok v) a b = ap Ok (same_iscc u v bytes a b)
 one_answer bytes (Ok u) (Err f) a b = absurd (faultless u bytes f a (fault_cases bytes f b))
 one_answer bytes (Err f) (Ok u) a b = absurd (faultless u bytes f b (fault_cases bytes f a))
 one_answer bytes (Err f) (Err g) a b = ap Err (same_fault bytes f g (fault_cases bytes f a) (fault_cases bytes g b))
@@ -122,22 +123,22 @@ behind_header bytes faults.Short b h = h
 behind_header bytes faults.Long b h = h
 
 -- what is read from a header and what is behind it
-pub decodes_from : (bytes front body : List ℕ) (h : Numbers) (r : Result Iscc IsccFault) → SpellsHeader h front → bytes ≡ front ++ body → MatchResult r (HasParts h body) (IsFirstFault h body) → DecodesTo bytes r
+pub decodes_from : (bytes front body : List ℕ) (h : Numbers) (r : Result Iscc IsccFault) → EncodesHeader h front → bytes ≡ front ++ body → MatchResult r (HasParts h body) (IsFirstFault h body) → DecodesTo bytes r
 decodes_from bytes front body h (Ok iscc) s e has =
-    let P : Numbers → Type 0 = λ n. SpellsHeader n front in
+    let P : Numbers → Type 0 = λ n. EncodesHeader n front in
     record {
       valid = has.valid;
-      parts = record { front = front; spelled = subst P (sym has.its_header) s; whole = e ∙ ap (λ rest. front ++ rest) (sym has.its_body) };
+      parts = record { front = front; encoded = subst P (sym has.its_header) s; whole = e ∙ ap (λ rest. front ++ rest) (sym has.its_body) };
     }
 decodes_from bytes front body h (Err fault) s e has =
-    behind_header bytes fault has.behind (record { header = h; body = body; parts = record { front = front; spelled = s; whole = e }; first = has.first })
+    behind_header bytes fault has.behind (record { header = h; body = body; parts = record { front = front; encoded = s; whole = e }; first = has.first })
 
--- a code has one spelling
-same_front : (h : Numbers) (a b : List ℕ) → SpellsHeader h a → SpellsHeader h b → a ≡ b
-same_front h a b s t = same_bytes a b s.range t.range (s.spelled ∙ sym t.spelled)
+-- an ISCC has one encoding
+same_front : (h : Numbers) (a b : List ℕ) → EncodesHeader h a → EncodesHeader h b → a ≡ b
+same_front h a b s t = same_bytes a b s.range t.range (s.encoded ∙ sym t.encoded)
 
-pub same_spelling : (iscc : Iscc) (a b : List ℕ) → SpellsIscc iscc a → SpellsIscc iscc b → a ≡ b
-same_spelling iscc a b s t =
+pub same_encoding : (iscc : Iscc) (a b : List ℕ) → EncodesIscc iscc a → EncodesIscc iscc b → a ≡ b
+same_encoding iscc a b s t =
     s.parts.whole
-    ∙ ap (λ front. front ++ body_of iscc) (same_front (header_of iscc) s.parts.front t.parts.front s.parts.spelled t.parts.spelled)
+    ∙ ap (λ front. front ++ body_of iscc) (same_front (header_of iscc) s.parts.front t.parts.front s.parts.encoded t.parts.encoded)
     ∙ sym t.parts.whole

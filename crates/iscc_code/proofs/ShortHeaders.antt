@@ -1,8 +1,8 @@
 -- Headers of four small numbers have two bytes.
 use Rattle.std.proofs.Common.{◌≡◌, ℕ, ◌*◌, ◌%◌, ◌<◌, List, [], ◌++◌, length, length-append, sym, ◌∙◌, ap, arith}
-use Rattle.iscc_header.specs.Headers.{number_bits, padded, Numbers, SpellsHeader}
+use Rattle.iscc_header.specs.Headers.{number_bits, padded, Numbers, EncodesHeader}
 use Rattle.iscc_header.proofs.BitLists.{length-byte_bits}
-use Rattle.iscc_header.proofs.NumberSpellings.{length-number_bits}
+use Rattle.iscc_header.proofs.NumberEncodings.{length-number_bits}
 use Rattle.iscc_header.proofs.HeaderReading.{padded_even}
 
 -- four numbers below 8
@@ -17,7 +17,7 @@ length-small_number n h =
     let bits = length-number_bits n (omega arith) in
     omega (arith, bits.1, bits.4 h)
 
-pub length-short_header : (h : Numbers) (front : List ℕ) → SpellsHeader h front → IsShort h → length front ≡ 2
+pub length-short_header : (h : Numbers) (front : List ℕ) → EncodesHeader h front → IsShort h → length front ≡ 2
 length-short_header h front s small =
     let none : List ℕ = [] in
     let len = number_bits h.len ++ none in
@@ -36,5 +36,5 @@ length-short_header h front s small =
       length-small_number h.version small.version,
       length-small_number h.len small.len,
     ) in
-    let whole : 8 * length front ≡ length (padded bits) = sym (length-byte_bits front) ∙ ap length s.spelled in
+    let whole : 8 * length front ≡ length (padded bits) = sym (length-byte_bits front) ∙ ap length s.encoded in
     omega (arith, whole, ap length (padded_even bits (ap (λ n. n % 8) sixteen)), sixteen)

@@ -1,7 +1,7 @@
--- The spelling of a code as bytes, and the fault of bytes that spell none (ISO 24138:2024).
-use Rattle.std.specs.Prelude.{◌≡◌, ◌+◌, ◌*◌, ℕ, List, [], ◌∷◌, ◌++◌, length, nat_lt, ◌==◌, not, if◌then◌else◌, Bool, Option, Some, None, Result, Ok, Err}
+-- The encoding of an ISCC as bytes, and the fault of bytes that encode none (ISO 24138:2024).
+use Rattle.std.specs.Prelude.{◌≡◌, ◌+◌, ◌*◌, ℕ, List, [], ◌∷◌, ◌++◌, length, nat_lt, ◌==◌, not, if◌then◌else◌, Bool, Option, Some, None}
 use Rattle.iscc_header.specs.Bits.{byte_bits}
-use Rattle.iscc_header.specs.Headers.{Numbers, SpellsHeader, EndsWithinHeader, LacksNumber, IsPaddedWrongly}
+use Rattle.iscc_header.specs.Headers.{Numbers, EncodesHeader, EndsWithinHeader, LacksNumber, IsPaddedWrongly}
 use Rattle.iscc_header.specs.declared.header.HeaderFault.{HeaderFault}
 use Rattle.iscc_header.specs.declared.header.HeaderFault.TheVariants as header_faults
 use Rattle.iscc_header.specs.declared.unit.Unit64.{Unit64}
@@ -15,28 +15,30 @@ use Rattle.iscc_code.specs.declared.iscc.IsccFault.TheVariants as faults
 -- the bytes are this header and this body
 pub record IsHeaderAndBody (bytes : List ℕ) (header : Numbers) (body : List ℕ) : Type 0 where
   pub front : List ℕ
-  pub spelled : SpellsHeader header front
+  pub encoded : EncodesHeader header front
   pub whole : bytes ≡ front ++ body
 
--- the values that a code has
+-- the values that an ISCC has: here its numbers have no range of their own
 abbrev pub IsIscc : Iscc → Type 0
 IsIscc (codes.Unit unit) = IsUnit unit
 IsIscc (codes.Code code) = IsCode code
 
+-- the numbers of its header
 abbrev pub header_of : Iscc → Numbers
 header_of (codes.Unit unit) = unit_header unit
 header_of (codes.Code code) = code_header code
 
+-- what stands behind its header
 abbrev pub body_of : Iscc → List ℕ
 body_of (codes.Unit unit) = unit.body
 body_of (codes.Code code) = code_body code
 
--- these bytes are the spelling of the code: its header, and its body
-pub record SpellsIscc (iscc : Iscc) (bytes : List ℕ) : Type 0 where
+-- these bytes are the encoding of the ISCC: its header, and its body
+pub record EncodesIscc (iscc : Iscc) (bytes : List ℕ) : Type 0 where
   pub valid : IsIscc iscc
   pub parts : IsHeaderAndBody bytes (header_of iscc) (body_of iscc)
 
--- the units of a code as units of 64 bits, each by its first bits; a unit of 32 bits has none
+-- the units of an ISCC as units of 64 bits, each by its first bits; a unit of 32 bits has none
 abbrev pub units_of : Iscc → Option (List Unit64)
 units_of (codes.Unit unit) = if nat_lt (length unit.body) 8 then None else Some (first64_of unit ∷ [])
 units_of (codes.Code code) = Some (code_units code)
@@ -60,11 +62,6 @@ fault_of header body =
     else if nat_lt (body_len header.main header.len) (length body) then Some faults.Long
     else None
 
--- a fault of what stands behind the header, or of its numbers
-abbrev pub IsBehindHeader : IsccFault → Type 0
-IsBehindHeader (faults.Header fault) = ⊥
-IsBehindHeader fault = Unit {0}
-
 -- the bytes begin with no header, and this is why
 abbrev pub HasHeaderFault : List ℕ → HeaderFault → Type 0
 HasHeaderFault bytes header_faults.Short = EndsWithinHeader (byte_bits bytes)
@@ -78,24 +75,7 @@ pub record HasBodyFault (bytes : List ℕ) (fault : IsccFault) : Type 0 where
   pub parts : IsHeaderAndBody bytes header body
   pub first : fault_of header body ≡ Some fault
 
--- the bytes spell no code, and this is the first fault
+-- the bytes encode no ISCC, and this is the first fault
 abbrev pub HasFault : List ℕ → IsccFault → Type 0
 HasFault bytes (faults.Header fault) = HasHeaderFault bytes fault
 HasFault bytes fault = HasBodyFault bytes fault
-
--- the code that the bytes spell, or their fault
-abbrev pub DecodesTo : List ℕ → Result Iscc IsccFault → Type 0
-DecodesTo bytes (Ok iscc) = SpellsIscc iscc bytes
-DecodesTo bytes (Err fault) = HasFault bytes fault
-
--- the code has this header and this body
-pub record HasParts (header : Numbers) (body : List ℕ) (iscc : Iscc) : Type 0 where
-  pub valid : IsIscc iscc
-  pub its_header : header_of iscc ≡ header
-  pub its_body : body_of iscc ≡ body
-  pub faultless : fault_of header body ≡ None
-
--- their first fault is this one
-pub record IsFirstFault (header : Numbers) (body : List ℕ) (fault : IsccFault) : Type 0 where
-  pub behind : IsBehindHeader fault
-  pub first : fault_of header body ≡ Some fault

@@ -35,11 +35,11 @@ code_units code =
 unfoldable pub code_len : CodeParts → ℕ
 code_len code = (if is_some code.content_body then 1 else 0) + (if is_some code.semantic_body then 2 else 0) + (if is_some code.meta_body then 4 else 0)
 
--- how many units a code with this Length has
+-- how many units an ISCC-CODE with this Length has
 abbrev pub unit_count : ℕ → ℕ
 unit_count len = 2 + len % 2 + len / 2 % 2 + len / 4 % 2
 
--- A code with this Length may have this SubType: SUM, which is 5, for DATA and INSTANCE alone, NONE, which is 6, with META
+-- An ISCC-CODE with this Length may have this SubType: SUM, which is 5, for DATA and INSTANCE alone, NONE, which is 6, with META
 -- beside them, and else that of its SEMANTIC and CONTENT units.
 unfoldable pub is_code_sub : ℕ → ℕ → Bool
 is_code_sub len sub = if len == 0 then sub == 5 else if len == 4 then sub == 6 else nat_lt sub 5
@@ -48,7 +48,7 @@ is_code_sub len sub = if len == 0 then sub == 5 else if len == 4 then sub == 6 e
 abbrev pub IsBody : ℕ → Type 0
 IsBody body = body < 2 ^ 64
 
--- the values that a code has: here its numbers have no range of their own
+-- the values that an ISCC-CODE has: here its numbers have no range of their own
 pub record IsCode (code : CodeParts) : Type 0 where
   pub sub : is_code_sub (code_len code) code.sub ≡ true
   pub meta_body : IfSome code.meta_body IsBody
@@ -99,7 +99,7 @@ compose_fault given =
     else if has_two_subs given then Some faults.SubTypes
     else None
 
--- The code is the composite of the given units, whatever order they have: it has the first 64 bits of each of them,
+-- The ISCC-CODE is the composite of the given units, whatever order they have: it has the first 64 bits of each of them,
 -- by rising MainType, and nothing else.
 pub record IsComposite (given : List UnitParts) (code : CodeParts) : Type 0 where
   pub valid : IsCode code

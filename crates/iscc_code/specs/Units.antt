@@ -1,7 +1,7 @@
 -- Units of every width: a kind and a body (ISO 24138:2024).
 use Rattle.std.specs.Prelude.{◌≡◌, ◌<◌, ◌≤◌, ◌-◌, ◌/◌, ◌%◌, ℕ, List, length, take, All, Bool, ◌==◌, ◌&&◌}
 use Rattle.std.specs.List.{list_any}
-use Rattle.std.specs.Int.{w64, from_be_bytes}
+use Rattle.std.specs.Int.{w64, from_be_bytes, to_be_bytes}
 use Rattle.iscc_header.specs.Bits.{IsByte}
 use Rattle.iscc_header.specs.Headers.{Numbers}
 use Rattle.iscc_header.specs.Kinds.{kinds, main_of, sub_of}
@@ -39,3 +39,7 @@ first_bits body = from_be_bytes w64 (take 8 body)
 -- the unit of the first 64 bits
 abbrev pub first64_of : UnitParts → Unit64
 first64_of unit = record { kind = unit.kind; body = first_bits unit.body }
+
+-- a unit of 64 bits as what a contract sees of units of every width: the first bit of its body is the highest of the first byte
+abbrev pub unit_parts : Unit64 → UnitParts
+unit_parts unit = record { kind = unit.kind; body = to_be_bytes w64 unit.body }

@@ -1,11 +1,14 @@
-ghost use Rattle.std.specs.Prelude.{◌≡◌, ◌<◌, ◌≤◌, ◌+◌, ◌*◌, ◌++◌, ℕ, length, true, is_some, All, IfSome, if◌then◌else◌};
+ghost use Rattle.std.specs.Prelude.{◌≡◌, ◌<◌, ◌≤◌, ◌+◌, ◌*◌, ◌++◌, ℕ, length, true, is_some, All, IfSome, Contains, if◌then◌else◌};
 ghost use Rattle.std.specs.List.{flat_map};
 ghost use Rattle.arrayvec.specs.ArrayVec.{array_vec_len};
-ghost use Rattle.iscc_header.specs.Units.{IsUnit};
+ghost use Rattle.iscc_header.specs.Kinds.{main_number, kinds};
+ghost use Rattle.iscc_header.specs.Unit64s.{IsUnit64};
 ghost use Rattle.iscc_code.specs.Composites.{IsCode, IsBody, code_units, code_len, code_body, code_header, body_bytes, unit_if, unit_count, is_code_sub as is_sub_of_code};
+ghost use Rattle.iscc_code.specs.inner.KindNumbers.{kind_from};
 
+use crate::unit::first_number;
 use arrayvec::ArrayVec;
-use iscc_header::{Kind, Unit64};
+use iscc_header::{Kind, MainType, Unit64};
 use std::marker::Model;
 
 /// The SubType of DATA and INSTANCE alone.
@@ -75,16 +78,15 @@ impl Code {
     /// Its units, by rising MainType. Takes no memory.
     pub fn split(&self) -> ArrayVec<Unit64, 5>
         ensures value { result.items ≡ code_units self.now }
-        ensures units { All IsUnit result.items }
+        ensures units { All IsUnit64 result.items }
         ensures range { IsCode self.now }
     {
-        let sub = self.sub as u8;
         let mut units = ArrayVec::new();
-        push_if(&mut units, 0, self.meta_body);
-        push_if(&mut units, 1 + sub, self.semantic_body);
-        push_if(&mut units, 6 + sub, self.content_body);
-        push_if(&mut units, 11, Some(self.data_body));
-        push_if(&mut units, 12, Some(self.instance_body));
+        push_if(&mut units, MainType::Meta, 0, self.meta_body);
+        push_if(&mut units, MainType::Semantic, self.sub, self.semantic_body);
+        push_if(&mut units, MainType::Content, self.sub, self.content_body);
+        push_if(&mut units, MainType::Data, 0, Some(self.data_body));
+        push_if(&mut units, MainType::Instance, 0, Some(self.instance_body));
         units
     }
 
@@ -97,27 +99,30 @@ impl Code {
     }
 }
 
-// What a body adds to a Length where it is there.
+// What a body adds to the Length of its header where it is there.
 fn worth(body: Option<u64>, worth: u16) -> u16
     ensures { result ≡ (if is_some body then worth else 0) }
 {
     if body.is_some() { worth } else { 0 }
 }
 
-// Adds the unit with this kind's number and this body, if the body is there.
-fn push_if(units: &mut ArrayVec<Unit64, 5>, kind: u8, body: Option<u64>)
-    requires kind { kind < 13 }
+// Adds the unit with this MainType, this SubType and this body, if the body is there.
+fn push_if(units: &mut ArrayVec<Unit64, 5>, main: MainType, sub: u16, body: Option<u64>)
+    requires kind { IfSome body (λ b. Contains kinds (main_number main, sub)) }
     requires room { array_vec_len units.old < 5 }
-    ensures items { units.new.items ≡ units.old.items ++ unit_if kind body }
+    ensures items { units.new.items ≡ units.old.items ++ unit_if (kind_from (main_number main) sub) body }
     ensures len { array_vec_len units.new ≤ array_vec_len units.old + 1 }
 {
-    if let Some(body) = body {
-        let kind = Kind::new(kind).unwrap();
-        units.push(Unit64 { kind, body });
-    }
+    let Some(body) = body else {
+        return;
+    };
+    let Some(kind) = Kind::of(main, sub) else {
+        unreachable!()
+    };
+    units.push(Unit64 { kind, body });
 }
 
-/// Whether a code whose header has this Length may have this SubType.
+/// Whether an ISCC-CODE whose header has this Length may have this SubType.
 #[tactic(auto, unfolding(crate::specs::Composites::is_code_sub))]
 pub(crate) fn may_have_sub(len: u16, sub: u16) -> bool
     ensures { result ≡ is_sub_of_code len sub }
@@ -131,7 +136,7 @@ pub(crate) fn may_have_sub(len: u16, sub: u16) -> bool
     }
 }
 
-/// How many units a code has whose header has this Length.
+/// How many units an ISCC-CODE has whose header has this Length.
 pub(crate) fn units_in(len: u16) -> usize
     requires { len < 8 }
     ensures { result ≡ unit_count len }
@@ -139,7 +144,7 @@ pub(crate) fn units_in(len: u16) -> usize
     (2 + len % 2 + len / 2 % 2 + len / 4 % 2) as usize
 }
 
-/// The code with this Length and this SubType in its header, and this body behind it.
+/// The ISCC-CODE with this Length and this SubType in its header, and this body behind it.
 pub(crate) fn code_from(len: u16, sub: u16, body: &[u8]) -> Code
     requires len { len < 8 }
     requires sub { is_sub_of_code len sub ≡ true }
@@ -186,9 +191,5 @@ fn next_body(bytes: &[u8]) -> (u64, &[u8])
     ensures rest { length bytes.now ≡ 8 + length result.1.now }
     ensures range { IsBody result.0 }
 {
-    let (front, rest) = bytes.split_at(8);
-    let body = u64::from_be_bytes([
-        front[0], front[1], front[2], front[3], front[4], front[5], front[6], front[7],
-    ]);
-    (body, rest)
+    (first_number(bytes), &bytes[8..])
 }

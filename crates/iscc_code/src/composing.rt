@@ -4,7 +4,7 @@ ghost use Rattle.iscc_header.specs.Kinds.{main_number, main_of};
 ghost use Rattle.iscc_code.specs.declared.composing.ComposeFault.{ComposeFault as AFault};
 ghost use Rattle.iscc_code.specs.Units.{IsUnit, first64_of, first_bits};
 ghost use Rattle.iscc_code.specs.Composites.{IsCode, IsBody, IsComposite, code_units, compose_fault, of_main, subs_differ, has_twice as some_stands_twice, has_narrow};
-ghost use Rattle.iscc_code.specs.Joined.{ComposesTo, FitsMain, in_order, sub_from};
+ghost use Rattle.iscc_code.specs.inner.Joined.{ComposesTo, FitsMain, in_order, sub_from};
 
 use crate::code::{Code, NONE, SUM};
 use crate::unit::Unit;
@@ -119,7 +119,7 @@ fn have_two_subs(semantic: &Option<Unit>, content: &Option<Unit>) -> bool
     }
 }
 
-// The code of the first 64 bits of these units.
+// The ISCC-CODE of the first 64 bits of these units.
 fn joined(
     meta: &Option<Unit>,
     semantic: &Option<Unit>,
@@ -146,7 +146,7 @@ fn joined(
     }
 }
 
-// The SubType of a code with these units, and a META unit or none.
+// The SubType of an ISCC-CODE with these units, and a META unit or none.
 fn sub_of_code(has_meta: bool, semantic: &Option<Unit>, content: &Option<Unit>) -> u16
     ensures { result ≡ sub_from has_meta semantic.now content.now }
 {

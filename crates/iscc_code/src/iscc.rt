@@ -1,12 +1,13 @@
 ghost use Rattle.std.specs.Prelude.{◌≡◌, ◌<◌, ◌≤◌, ◌+◌, ◌++◌, ◌↔◌, ℕ, List, length, true, false, IfOk, IfSome, IfNone, MatchResult};
 ghost use Rattle.arrayvec.specs.ArrayVec.{array_vec_len};
 ghost use Rattle.iscc_header.specs.Kinds.{main_of, sub_of};
-ghost use Rattle.iscc_header.specs.Headers.{SpellsHeader};
+ghost use Rattle.iscc_header.specs.Headers.{EncodesHeader};
 ghost use Rattle.iscc_code.specs.declared.iscc.Iscc.{Iscc as AnIscc};
 ghost use Rattle.iscc_code.specs.declared.iscc.Iscc.TheVariants.{Unit as AUnit, Code as ACode};
 ghost use Rattle.iscc_code.specs.declared.iscc.IsccFault.{IsccFault as AFault};
 ghost use Rattle.iscc_code.specs.Units.{is_kind};
-ghost use Rattle.iscc_code.specs.Codes.{SpellsIscc, HasFault, DecodesTo, HasParts, IsFirstFault};
+ghost use Rattle.iscc_code.specs.Codes.{EncodesIscc, HasFault};
+ghost use Rattle.iscc_code.specs.inner.Decoding.{DecodesTo, HasParts, IsFirstFault};
 
 use crate::code::{Code, code_from, may_have_sub, units_in};
 use crate::unit::Unit;
@@ -16,14 +17,16 @@ use iscc_header::{Header, HeaderFault, Kind, MainType, decode_header, encode_hea
 // The MainType of an ISCC-CODE.
 const ISCC: u16 = 5;
 
-/// A whole ISCC: a unit, or an ISCC-CODE of several units.
+/// An ISCC (ISO 24138:2024): a unit, or an ISCC-CODE of several units.
 #[derive(Clone, Copy, Debug, PartialEq, Eq)]
 pub enum Iscc {
+    /// An ISCC-UNIT of 32 to 256 bits.
     Unit(Unit),
+    /// An ISCC-CODE of two to five units.
     Code(Code),
 }
 
-/// Why bytes spell no ISCC, in the order of the causes.
+/// Why bytes encode no ISCC, in the order of the causes.
 #[derive(Clone, Copy, Debug, PartialEq, Eq)]
 pub enum IsccFault {
     /// The bytes begin with no header.
@@ -42,10 +45,10 @@ pub enum IsccFault {
     Long,
 }
 
-/// The ISCC that the bytes spell (ISO 24138:2024), or the first fault.
+/// The ISCC that the bytes encode (ISO 24138:2024), or the first fault.
 pub fn decode(bytes: &[u8]) -> Result<Iscc, IsccFault>
-    ensures found { IfOk result (λ iscc. SpellsIscc iscc bytes.now) }
-    ensures complete { (iscc : AnIscc) → SpellsIscc iscc bytes.now → result ≡ Ok iscc }
+    ensures found { IfOk result (λ iscc. EncodesIscc iscc bytes.now) }
+    ensures complete { (iscc : AnIscc) → EncodesIscc iscc bytes.now → result ≡ Ok iscc }
     ensures fault { (fault : AFault) → (result ≡ Err fault) ↔ HasFault bytes.now fault }
 {
     read_bytes(bytes)
@@ -141,7 +144,7 @@ fn kind_of(header: &Header) -> Option<Kind>
 
 /// The bytes of an ISCC: its header, and its body. Takes no memory.
 pub fn encode(iscc: &Iscc) -> ArrayVec<u8, 42>
-    ensures { SpellsIscc iscc.now result.items }
+    ensures { EncodesIscc iscc.now result.items }
 {
     match iscc {
         Iscc::Unit(unit) => unit_bytes(unit),
@@ -150,7 +153,7 @@ pub fn encode(iscc: &Iscc) -> ArrayVec<u8, 42>
 }
 
 fn unit_bytes(unit: &Unit) -> ArrayVec<u8, 42>
-    ensures { SpellsIscc (AUnit unit.now) result.items }
+    ensures { EncodesIscc (AUnit unit.now) result.items }
 {
     let body = unit.body();
     let kind = unit.kind();
@@ -164,7 +167,7 @@ fn unit_bytes(unit: &Unit) -> ArrayVec<u8, 42>
 }
 
 fn code_bytes(code: &Code) -> ArrayVec<u8, 42>
-    ensures { SpellsIscc (ACode code.now) result.items }
+    ensures { EncodesIscc (ACode code.now) result.items }
 {
     let mut bytes = header_bytes(ISCC, code.sub(), code.header_len());
     for unit in code.split().as_slice() {
@@ -178,7 +181,7 @@ fn header_bytes(main: u16, sub: u16, len: u16) -> ArrayVec<u8, 42>
     requires main { main < 8 }
     requires sub { sub < 8 }
     requires len { len < 8 }
-    ensures spelled { SpellsHeader (record { main = main; sub = sub; version = 0; len = len }) result.items }
+    ensures encoded { EncodesHeader (record { main = main; sub = sub; version = 0; len = len }) result.items }
     ensures two { length result.items ≡ 2 }
 {
     let Some(header) = Header::new(main, sub, 0, len) else {

@@ -1,9 +1,17 @@
+//! Laws of the definitions. The functions do nothing: their contracts are the laws.
+
 ghost use Rattle.std.specs.Prelude.{◌≡◌, ℕ, List};
 ghost use Rattle.iscc_code.specs.declared.iscc.Iscc.{Iscc as AnIscc};
-ghost use Rattle.iscc_code.specs.Codes.{SpellsIscc};
+ghost use Rattle.iscc_code.specs.Codes.{EncodesIscc};
+ghost use Rattle.iscc_code.specs.Laws.{UnitsHaveOneComposite};
 
-/// A code has one spelling at most, and the other way round bytes spell one code at most.
-pub fn each_code_has_one_spelling()
-    ensures spelling { (iscc : AnIscc) (a b : List ℕ) → SpellsIscc iscc a → SpellsIscc iscc b → a ≡ b }
-    ensures code { (a b : AnIscc) (bytes : List ℕ) → SpellsIscc a bytes → SpellsIscc b bytes → a ≡ b }
+/// An ISCC has one encoding at most, and the other way round bytes encode one ISCC at most.
+pub fn each_iscc_has_one_encoding()
+    ensures encoding { (iscc : AnIscc) (a b : List ℕ) → EncodesIscc iscc a → EncodesIscc iscc b → a ≡ b }
+    ensures iscc { (a b : AnIscc) (bytes : List ℕ) → EncodesIscc a bytes → EncodesIscc b bytes → a ≡ b }
+{}
+
+/// Units have one composite at most, and the order in which they are given makes no difference.
+pub fn units_have_one_composite()
+    ensures { UnitsHaveOneComposite }
 {}

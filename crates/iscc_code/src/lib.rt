@@ -2,8 +2,8 @@
 //! composing of units (ISO 24138:2024).
 //!
 //! It stands on `iscc_header`, whose headers and kinds it puts before bodies. `iscc_text` prints and reads
-//! these codes as texts. `specs/Codes.antt` has the one spelling of a code as bytes, and the fault of every
-//! other list of bytes, `specs/Composites.antt` the units of an ISCC-CODE and the composite of given units.
+//! them as texts. `specs/Codes.antt` has the one encoding of an ISCC as bytes, and the fault of every other list of
+//! bytes, `specs/Composites.antt` the units of an ISCC-CODE and the composite of given units.
 #![tactic(auto)]
 
 mod code;
@@ -15,7 +15,7 @@ mod unit;
 pub use code::Code;
 pub use composing::{ComposeFault, compose};
 pub use iscc::{Iscc, IsccFault, decode, encode};
-pub use laws::each_code_has_one_spelling;
+pub use laws::{each_iscc_has_one_encoding, units_have_one_composite};
 pub use unit::Unit;
 
 #[cfg(test)]

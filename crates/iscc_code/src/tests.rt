@@ -44,7 +44,7 @@ fn a_body_has_four_to_thirty_two_bytes_by_fours(rt: HostRuntime) -> Result<(), F
 }
 
 #[test]
-fn the_first_fault_of_a_code_is_answered(rt: HostRuntime) {
+fn the_first_fault_of_an_iscc_is_answered(rt: HostRuntime) {
     let cases = [
         ([].as_slice(), IsccFault::Header(HeaderFault::Short)),
         ([0xF0, 0].as_slice(), IsccFault::Header(HeaderFault::NoCode)),

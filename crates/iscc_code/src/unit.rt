@@ -1,6 +1,6 @@
 ghost use Rattle.std.specs.Prelude.{◌≡◌, ◌≢◌, ◌<◌, ◌≤◌, ◌+◌, ◌-◌, ◌*◌, ◌^◌, ◌++◌, ◌↔◌, ℕ, List, length, take, replicate, IsNone, IsSome, IfSome, IfNone};
 ghost use Rattle.iscc_header.specs.Bits.{bits_of, byte_bits};
-ghost use Rattle.iscc_code.specs.Units.{UnitParts, IsBodyLength, IsUnit, first64_of};
+ghost use Rattle.iscc_code.specs.Units.{UnitParts, IsBodyLength, IsUnit, first_bits, first64_of};
 
 use iscc_header::{Kind, Unit64};
 use std::marker::Model;
@@ -17,7 +17,7 @@ pub struct Unit {
 impl Model for Unit {
     ghost use Rattle.std.specs.Prelude.{◌-◌, ◌++◌, length, take, replicate};
     ghost use Rattle.iscc_code.specs.Units.{UnitParts};
-    ghost use Rattle.iscc_code.specs.StoredUnits.{IsStored};
+    ghost use Rattle.iscc_code.specs.inner.StoredUnits.{IsStored};
 
     ghost Value = { UnitParts };
 
@@ -28,14 +28,14 @@ impl Model for Unit {
     ghost inverse = { λ v. record { kind = v.kind; len = length v.body; bytes = v.body ++ replicate (32 - length v.body) 0 } };
 
     ghost use Rattle.std.proofs.Common.{ap₂};
-    ghost use Rattle.iscc_code.specs.StoredUnits.{stored_len, stored_bytes};
+    ghost use Rattle.iscc_code.specs.inner.StoredUnits.{stored_len, stored_bytes};
 
     ghost inverse_ok = { λ a h. ap₂ (λ n b. record { kind = a.kind; len = n; bytes = b })
         (stored_len a.kind a.len a.bytes h) (stored_bytes a.kind a.len a.bytes h) };
 }
 
 impl Unit {
-    /// The unit of this kind with this body.
+    /// The unit of this kind with this body, or none where a body can't have so many bytes.
     pub fn new(kind: Kind, body: &[u8]) -> Option<Unit>
         ensures found { IfSome result (λ unit. unit ≡ record { kind = kind; body = body.now }) }
         ensures range { IfSome result IsUnit }
@@ -52,6 +52,7 @@ impl Unit {
         })
     }
 
+    /// Its MainType and its SubType.
     pub fn kind(&self) -> Kind
         ensures value { result ≡ self.now.kind }
         ensures range { IsUnit self.now }
@@ -59,6 +60,7 @@ impl Unit {
         self.kind
     }
 
+    /// Lends its body: 4, 8, .. or 32 bytes, the first bit the highest of the first byte.
     pub fn body(&self) -> &[u8]
         ensures value { result.now ≡ self.now.body }
         ensures range { IsUnit self.now }
@@ -81,12 +83,13 @@ impl Unit {
         ensures value { IfSome result (λ short. short ≡ first64_of self.now) }
         ensures none { IsNone result ↔ (length self.now.body ≡ 4) }
     {
-        if self.len < 8 {
+        let body = self.body();
+        if body.len() < 8 {
             return None;
         }
         Some(Unit64 {
             kind: self.kind,
-            body: number_of(&self.bytes[..8]),
+            body: first_number(body),
         })
     }
 }
@@ -97,20 +100,17 @@ fn filled(body: &[u8]) -> [u8; 32]
     ensures { result ≡ body.now ++ replicate (32 - length body.now) 0 }
 {
     let mut bytes = [0; 32];
-    for i in 0..body.len() {
-        bytes[i] = body[i];
-    }
+    bytes[..body.len()].copy_from_slice(body);
     bytes
 }
 
-// The number that bytes stand for, the first of them the highest.
-fn number_of(bytes: &[u8]) -> u64
-    requires { length bytes.now ≤ 8 }
-    ensures { bits_of (8 * length bytes.now) result ≡ byte_bits bytes.now }
+/// The number that the first eight bytes stand for, the first of them the highest.
+pub(crate) fn first_number(bytes: &[u8]) -> u64
+    requires { 8 ≤ length bytes.now }
+    ensures { result ≡ first_bits bytes.now }
 {
-    let mut number = 0u64;
-    for byte in bytes {
-        number = number * 256 + *byte as u64;
-    }
-    number
+    let Some(front) = bytes.first_chunk::<8>() else {
+        unreachable!()
+    };
+    u64::from_be_bytes(*front)
 }

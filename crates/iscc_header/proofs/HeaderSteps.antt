@@ -8,7 +8,7 @@ use Rattle.std.proofs.lemmas.List.{take-append-drop, append_cancel_right, take_m
 use Rattle.std.proofs.lemmas.List.Concat.{flat_map-append}
 use Rattle.std.proofs.lemmas.List.Elements.{All-push, All-take}
 use Rattle.iscc_header.specs.Bits.{bits_of, byte_bits, IsByte}
-use Rattle.iscc_header.specs.Headers.{number_bits, bits_from, IsSpellable, BeginsWithNumber, Numbers, IsHeader, SpellsHeader, BeginsWithNumbers}
+use Rattle.iscc_header.specs.Headers.{number_bits, bits_from, IsEncodable, BeginsWithNumber, Numbers, IsHeader, EncodesHeader, BeginsWithNumbers}
 use Rattle.iscc_header.proofs.BitLists.{length-byte_bits, byte_bits-append, drop-byte_bits, bits_of_split, bits_of-mod}
 use Rattle.iscc_header.proofs.NibblePlaces.{length-bits_from}
 use Rattle.iscc_header.proofs.HeaderReading.{in_order, padded_even, padded_odd}
@@ -46,10 +46,10 @@ pub number_read : (bits numbers rest next : List ℕ) (i n : ℕ) → i < length
 number_read bits numbers rest next i n h before one =
     let longer : take (i + 1) (set numbers i n) ≡ take i numbers ++ n ∷ [] = take_more_set numbers i n h in
     record {
-      spellable = subst (λ ns. All IsSpellable ns) (sym longer) (All-push IsSpellable (take i numbers) n before.spellable one.spellable);
-      spelled =
-          before.spelled
-          ∙ ap (λ b. flat_map number_bits (take i numbers) ++ b) one.spelled
+      encodable = subst (λ ns. All IsEncodable ns) (sym longer) (All-push IsEncodable (take i numbers) n before.encodable one.encodable);
+      encoded =
+          before.encoded
+          ∙ ap (λ b. flat_map number_bits (take i numbers) ++ b) one.encoded
           ∙ sym (append_assoc (flat_map number_bits (take i numbers)) (number_bits n) next)
           ∙ ap (λ b. b ++ next)
           (ap (λ b. flat_map number_bits (take i numbers) ++ b) (sym (append-nil (number_bits n)))
@@ -62,14 +62,14 @@ pub length_numbers : (bytes numbers : List ℕ) (at : ℕ) → at ≤ 2 * length
     → length (flat_map number_bits numbers) ≡ 4 * at
 length_numbers bytes numbers at h read =
     let bits = flat_map number_bits numbers in
-    omega (arith, length-byte_bits bytes, ap length read.spelled, length-append bits (bits_from bytes at), length-bits_from bytes at)
+    omega (arith, length-byte_bits bytes, ap length read.encoded, length-append bits (bits_from bytes at), length-bits_from bytes at)
 
 -- where the header ends
 abbrev pub EndsAt : List ℕ → ℕ → ℕ → Type 0
 EndsAt bytes at end = (2 * end ≡ at) ⊎ ((2 * end ≡ at + 1) × (bits_from bytes at ≡ bits_of 4 0 ++ bits_from bytes (at + 1)))
 
 pub header_read : (bytes : List ℕ) (h : Numbers) (at end : ℕ) → All IsByte bytes → IsHeader h → at ≤ 2 * length bytes
-    → BeginsWithNumbers (byte_bits bytes) (in_order h) (bits_from bytes at) → EndsAt bytes at end → SpellsHeader h (take end bytes)
+    → BeginsWithNumbers (byte_bits bytes) (in_order h) (bits_from bytes at) → EndsAt bytes at end → EncodesHeader h (take end bytes)
 unfolding bits_of
 header_read bytes h at end range is within read ends =
     let bits = flat_map number_bits (in_order h) in
@@ -84,7 +84,7 @@ header_read bytes h at end range is within read ends =
           record {
             numbers = is;
             range = All-take IsByte end bytes range;
-            spelled = append_cancel_right (byte_bits (take end bytes)) bits after (split ∙ read.spelled ∙ ap (λ b. bits ++ b) rest) ∙ sym (padded_even bits (omega arith));
+            encoded = append_cancel_right (byte_bits (take end bytes)) bits after (split ∙ read.encoded ∙ ap (λ b. bits ++ b) rest) ∙ sym (padded_even bits (omega arith));
           })
       | inr odd ↦
           (let place : 8 * end ≡ 4 * (at + 1) = omega (arith, odd.0) in
@@ -93,9 +93,9 @@ header_read bytes h at end range is within read ends =
           record {
             numbers = is;
             range = All-take IsByte end bytes range;
-            spelled =
+            encoded =
                 append_cancel_right (byte_bits (take end bytes)) (bits ++ bits_of 4 0) after
-                (split ∙ read.spelled ∙ ap (λ b. bits ++ b) (odd.1 ∙ ap (λ b. bits_of 4 0 ++ b) rest) ∙ sym (append_assoc bits (bits_of 4 0) after))
+                (split ∙ read.encoded ∙ ap (λ b. bits ++ b) (odd.1 ∙ ap (λ b. bits_of 4 0 ++ b) rest) ∙ sym (append_assoc bits (bits_of 4 0) after))
                 ∙ sym (padded_odd bits odd_bits);
           })
     ]
@@ -118,15 +118,15 @@ all_read bits ns rest i four done read = subst (λ list. BeginsWithNumbers bits 
 
 pub IsHeader-read : (bits ns rest : List ℕ) → BeginsWithNumbers bits (in_order (header_at ns)) rest → IsHeader (header_at ns)
 IsHeader-read bits ns rest read = record {
-  main = read.spellable 0 0 (omega arith);
-  sub = read.spellable 1 0 (omega arith);
-  version = read.spellable 2 0 (omega arith);
-  len = read.spellable 3 0 (omega arith);
+  main = read.encodable 0 0 (omega arith);
+  sub = read.encodable 1 0 (omega arith);
+  version = read.encodable 2 0 (omega arith);
+  len = read.encodable 3 0 (omega arith);
 }
 
--- the spellings of one number more
-pub spellings_more : (ns : List ℕ) (i : ℕ) → i < length ns → flat_map number_bits (take (i + 1) ns) ≡ flat_map number_bits (take i ns) ++ number_bits (get_or ns i 0)
-spellings_more ns i h =
+-- the encodings of one number more
+pub encodings_more : (ns : List ℕ) (i : ℕ) → i < length ns → flat_map number_bits (take (i + 1) ns) ≡ flat_map number_bits (take i ns) ++ number_bits (get_or ns i 0)
+encodings_more ns i h =
     ap (flat_map number_bits) (take_more ns i 0 h)
     ∙ flat_map-append number_bits (take i ns) (get_or ns i 0 ∷ [])
     ∙ ap (λ b. flat_map number_bits (take i ns) ++ b) (append-nil (number_bits (get_or ns i 0)))

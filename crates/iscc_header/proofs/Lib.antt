@@ -6,5 +6,5 @@ pub mod HeaderReading
 pub mod HeaderSteps
 pub mod NibblePlaces
 pub mod NumberReading
-pub mod NumberSpellings
+pub mod NumberEncodings
 pub mod WorkedBits

@@ -5,11 +5,11 @@ use Rattle.std.proofs.lemmas.List.{drop_all}
 use Rattle.std.proofs.lemmas.Nat.{pow-add}
 use Rattle.iscc_header.specs.Bits.{bits_of, byte_bits}
 use Rattle.iscc_header.specs.Headers.{number_bits, bits_from, BeginsWithNumber, EndsWithinNumber, BeginsWithNoNumber}
-use Rattle.iscc_header.specs.Reading.{ReadsNumber}
+use Rattle.iscc_header.specs.inner.Reading.{ReadsNumber}
 use Rattle.iscc_header.specs.declared.number.NibbleFault.{NibbleFault}
 use Rattle.iscc_header.specs.declared.number.NibbleFault.TheVariants.{Short, NoCode}
 use Rattle.iscc_header.proofs.BitLists.{length-bits_of, bits_of-append, last_bits, filled, length-byte_bits}
-use Rattle.iscc_header.proofs.NumberSpellings.{nibbles_2, nibbles_3, nibbles_4, one_number, whole_or_cut, whole_or_none, cut_or_none}
+use Rattle.iscc_header.proofs.NumberEncodings.{nibbles_2, nibbles_3, nibbles_4, one_number, whole_or_cut, whole_or_none, cut_or_none}
 
 pub reads_complete : (bytes : List ℕ) (at : ℕ) (r : Result (ℕ × ℕ) NibbleFault) (n : ℕ) (rest : List ℕ) → ReadsNumber bytes at r → BeginsWithNumber (bits_from bytes at) n rest → IsOkAnd r (λ read. read.0 ≡ n)
 reads_complete bytes at (Ok read) n rest h b = (one_number _ _ _ _ _ h.1 b).0
@@ -39,16 +39,16 @@ pub ends_at_end : (bytes : List ℕ) (at : ℕ) → at ≡ 2 * length bytes → 
 unfolding bits_of
 ends_at_end bytes at e =
     let none : bits_from bytes at ≡ [] = drop_all (4 * at) (byte_bits bytes) (omega (arith, length-byte_bits bytes)) in
-    record { number = 0; more = number_bits 0; spellable = omega arith; wanted = omega arith; spelled = ap (λ front. front ++ number_bits 0) (sym none) }
+    record { number = 0; more = number_bits 0; encodable = omega arith; wanted = omega arith; encoded = ap (λ front. front ++ number_bits 0) (sym none) }
 
--- the spellings that begin with a nibble: that nibble and so many others, for the numbers from the least on
+-- the encodings that begin with a nibble: that nibble and so many others, for the numbers from the least on
 pub record IsRow (first count least : ℕ) : Type 0 where
-  pub spelled : (u : ℕ) → u < 2 ^ (4 * count) → number_bits (least + u) ≡ bits_of 4 first ++ bits_of (4 * count) u
+  pub encoded : (u : ℕ) → u < 2 ^ (4 * count) → number_bits (least + u) ≡ bits_of 4 first ++ bits_of (4 * count) u
   pub within : least + 2 ^ (4 * count) ≤ 4680
 
 pub row_from_8 : (first : ℕ) → 8 ≤ first → first ≤ 11 → IsRow first 1 (8 + 16 * (first - 8))
 row_from_8 first l h = record {
-  spelled = λ u k.
+  encoded = λ u k.
       let n = 8 + 16 * (first - 8) + u in
       sym (nibbles_2 n (omega arith) (omega arith))
       ∙ ap (bits_of 8) (let same : 128 + (n - 8) ≡ first * 2 ^ 4 + u = omega arith in same)
@@ -58,7 +58,7 @@ row_from_8 first l h = record {
 
 pub row_from_12 : (first : ℕ) → 12 ≤ first → first ≤ 13 → IsRow first 2 (72 + 256 * (first - 12))
 row_from_12 first l h = record {
-  spelled = λ u k.
+  encoded = λ u k.
       let n = 72 + 256 * (first - 12) + u in
       sym (nibbles_3 n (omega arith) (omega arith))
       ∙ ap (bits_of 12) (let same : 3072 + (n - 72) ≡ first * 2 ^ 8 + u = omega arith in same)
@@ -68,7 +68,7 @@ row_from_12 first l h = record {
 
 pub row_from_14 : IsRow 14 3 584
 row_from_14 = record {
-  spelled = λ u k.
+  encoded = λ u k.
       sym (nibbles_4 (584 + u) (omega arith) (omega arith))
       ∙ ap (bits_of 16) (let same : 57344 + (584 + u - 584) ≡ 14 * 2 ^ 12 + u = omega arith in same)
       ∙ bits_of-append 4 12 16 14 u k refl;
@@ -81,12 +81,12 @@ pub row_read : (bytes : List ℕ) (at next first count least number u : ℕ) →
     → number ≡ least + u → u < 2 ^ (4 * count) → bits_from bytes (at + 1) ≡ bits_of (4 * count) u ++ bits_from bytes next
     → BeginsWithNumber (bits_from bytes at) number (bits_from bytes next)
 row_read bytes at next first count least number u row front is small others = record {
-  spellable = omega (arith, row.within);
-  spelled =
+  encodable = omega (arith, row.within);
+  encoded =
       front
       ∙ ap (λ bits. bits_of 4 first ++ bits) others
       ∙ sym (append_assoc (bits_of 4 first) (bits_of (4 * count) u) (bits_from bytes next))
-      ∙ ap (λ bits. bits ++ bits_from bytes next) (sym (row.spelled u small) ∙ ap number_bits (sym is));
+      ∙ ap (λ bits. bits ++ bits_from bytes next) (sym (row.encoded u small) ∙ ap number_bits (sym is));
 }
 
 -- the bytes end before
@@ -101,10 +101,10 @@ row_cut bytes at first count least row front in' short =
     record {
       number = least + whole.0;
       more = bits_of w 0;
-      spellable = omega (arith, row.within, whole.1);
+      encodable = omega (arith, row.within, whole.1);
       wanted = omega (arith, length-bits_of w 0);
-      spelled =
-          row.spelled whole.0 whole.1
+      encoded =
+          row.encoded whole.0 whole.1
           ∙ ap (λ bits. bits_of 4 first ++ bits) (whole.2 ∙ ap (λ bits. bits ++ bits_of w 0) (sym rest.1))
           ∙ sym (append_assoc (bits_of 4 first) (bits_from bytes (at + 1)) (bits_of w 0))
           ∙ ap (λ bits. bits ++ bits_of w 0) (sym front);

@@ -1,9 +1,9 @@
--- The bits of a header: four numbers, each spelled in nibbles (ISO 24138:2024, header encoding).
+-- The bits of a header: four numbers, each encoded in nibbles (ISO 24138:2024, header encoding).
 use Rattle.std.specs.Prelude.{◌≡◌, ◌≢◌, ◌<◌, ℕ, ◌-◌, ◌*◌, ◌%◌, nat_lt, ◌==◌, if◌then◌else◌, List, [], ◌∷◌, ◌++◌, length, take, drop, All}
 use Rattle.std.specs.List.{flat_map}
 use Rattle.iscc_header.specs.Bits.{bits_of, byte_bits, IsByte}
 
--- A number below 4680: a prefix that says how long its spelling is, and the number in the bits that are left.
+-- A number below 4680: a prefix that says how long its encoding is, and the number in the bits that are left.
 abbrev pub number_bits : ℕ → List ℕ
 number_bits n =
     if nat_lt n 8 then 0 ∷ bits_of 3 n
@@ -11,29 +11,29 @@ number_bits n =
     else if nat_lt n 584 then 1 ∷ 1 ∷ 0 ∷ bits_of 9 (n - 72)
     else 1 ∷ 1 ∷ 1 ∷ 0 ∷ bits_of 12 (n - 584)
 
--- the numbers that have a spelling
-abbrev pub IsSpellable : ℕ → Type 0
-IsSpellable n = n < 4680
+-- the numbers that have an encoding
+abbrev pub IsEncodable : ℕ → Type 0
+IsEncodable n = n < 4680
 
--- these bits are the spelling of the number
-pub record SpellsNumber (bits : List ℕ) (n : ℕ) : Type 0 where
-  pub spellable : IsSpellable n
-  pub spelled : bits ≡ number_bits n
+-- these bits are the encoding of the number
+pub record EncodesNumber (bits : List ℕ) (n : ℕ) : Type 0 where
+  pub encodable : IsEncodable n
+  pub encoded : bits ≡ number_bits n
 
--- the bits begin with the spelling of the number, and go on with the rest
+-- the bits begin with the encoding of the number, and go on with the rest
 pub record BeginsWithNumber (bits : List ℕ) (n : ℕ) (rest : List ℕ) : Type 0 where
-  pub spellable : IsSpellable n
-  pub spelled : bits ≡ number_bits n ++ rest
+  pub encodable : IsEncodable n
+  pub encoded : bits ≡ number_bits n ++ rest
 
--- the bits end within the spelling of a number: more are wanted
+-- the bits end within the encoding of a number: more are wanted
 pub record EndsWithinNumber (bits : List ℕ) : Type 0 where
   pub number : ℕ
   pub more : List ℕ
-  pub spellable : IsSpellable number
+  pub encodable : IsEncodable number
   pub wanted : 0 < length more
-  pub spelled : number_bits number ≡ bits ++ more
+  pub encoded : number_bits number ≡ bits ++ more
 
--- the bits begin with the nibble 15, with which no spelling begins
+-- the bits begin with the nibble 15, with which no encoding begins
 pub record BeginsWithNoNumber (bits : List ℕ) : Type 0 where
   pub rest : List ℕ
   pub fifteen : bits ≡ 1 ∷ 1 ∷ 1 ∷ 1 ∷ rest
@@ -57,23 +57,23 @@ pub record Numbers : Type 0 where
   pub version : ℕ
   pub len : ℕ
 
--- a header's numbers each have a spelling
+-- a header's numbers each have an encoding
 pub record IsHeader (header : Numbers) : Type 0 where
-  pub main : IsSpellable header.main
-  pub sub : IsSpellable header.sub
-  pub version : IsSpellable header.version
-  pub len : IsSpellable header.len
+  pub main : IsEncodable header.main
+  pub sub : IsEncodable header.sub
+  pub version : IsEncodable header.version
+  pub len : IsEncodable header.len
 
--- these bytes are the spelling of the header
-pub record SpellsHeader (header : Numbers) (bytes : List ℕ) : Type 0 where
+-- these bytes are the encoding of the header
+pub record EncodesHeader (header : Numbers) (bytes : List ℕ) : Type 0 where
   pub numbers : IsHeader header
   pub range : All IsByte bytes
-  pub spelled : byte_bits bytes ≡ header_bits header.main header.sub header.version header.len
+  pub encoded : byte_bits bytes ≡ header_bits header.main header.sub header.version header.len
 
--- the bits are the spellings of these numbers, and the rest
+-- the bits are the encodings of these numbers, and the rest
 pub record BeginsWithNumbers (bits numbers rest : List ℕ) : Type 0 where
-  pub spellable : All IsSpellable numbers
-  pub spelled : bits ≡ flat_map number_bits numbers ++ rest
+  pub encodable : All IsEncodable numbers
+  pub encoded : bits ≡ flat_map number_bits numbers ++ rest
 
 -- where a header's next number should stand, the bits end within it
 pub record EndsWithinHeader (bits : List ℕ) : Type 0 where

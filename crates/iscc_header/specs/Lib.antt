@@ -1,5 +1,5 @@
 pub mod Bits
 pub mod Kinds
-pub mod Units
+pub mod Unit64s
 pub mod Headers
-pub mod Reading
+pub mod inner

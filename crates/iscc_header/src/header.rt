@@ -1,13 +1,13 @@
 ghost use Rattle.std.specs.Prelude.{◌≡◌, ◌≢◌, ◌<◌, ◌≤◌, ◌+◌, ◌*◌, ◌%◌, ◌^◌, ◌++◌, ◌↔◌, ◌⊎◌, ℕ, List, length, take, All, IsNone, IfSome, IfNone, IfOk};
 ghost use Rattle.iscc_header.specs.Bits.{bits_of, byte_bits, IsByte};
-ghost use Rattle.iscc_header.specs.Headers.{number_bits, padded, bits_from, IsSpellable, Numbers, IsHeader, SpellsHeader, EndsWithinHeader, LacksNumber, IsPaddedWrongly};
-ghost use Rattle.iscc_header.specs.Reading.{ReadsHeader};
+ghost use Rattle.iscc_header.specs.Headers.{number_bits, padded, bits_from, IsEncodable, Numbers, IsHeader, EncodesHeader, EndsWithinHeader, LacksNumber, IsPaddedWrongly};
+ghost use Rattle.iscc_header.specs.inner.Reading.{ReadsHeader};
 
-use crate::number::{NibbleFault, get_nibbles, nibble_at, put_nibbles};
+use crate::number::{NUMBER_MOST, NibbleFault, get_nibbles, nibble_at, put_nibbles};
 use arrayvec::ArrayVec;
 use std::marker::Model;
 
-/// The four numbers of a header (ISO 24138:2024), each of them at most 4679.
+/// The four numbers of a header (ISO 24138:2024), each of them at most [`NUMBER_MOST`].
 #[derive(Clone, Copy, Debug, PartialEq, Eq)]
 pub struct Header {
     main: u16,
@@ -40,11 +40,18 @@ pub enum HeaderFault {
 }
 
 impl Header {
+    /// The header with these four numbers, or none if one of them is above [`NUMBER_MOST`]. What they may be for
+    /// an ISCC is asked when one is decoded.
     pub fn new(main: u16, sub: u16, version: u16, length: u16) -> Option<Header>
         ensures found { IfSome result (λ h. h ≡ record { main = main; sub = sub; version = version; len = length }) }
-        ensures none { IsNone result ↔ ((4679 < main) ⊎ (4679 < sub) ⊎ (4679 < version) ⊎ (4679 < length)) }
+        ensures none { IsNone result ↔ ((NUMBER_MOST < main) ⊎ (NUMBER_MOST < sub)
+            ⊎ (NUMBER_MOST < version) ⊎ (NUMBER_MOST < length)) }
     {
-        if main > 4679 || sub > 4679 || version > 4679 || length > 4679 {
+        if main > NUMBER_MOST
+            || sub > NUMBER_MOST
+            || version > NUMBER_MOST
+            || length > NUMBER_MOST
+        {
             return None;
         }
         Some(Header {
@@ -55,6 +62,7 @@ impl Header {
         })
     }
 
+    /// The MainType, as the number that the header has.
     pub fn main(&self) -> u16
         ensures value { result ≡ self.now.main }
         ensures range { IsHeader self.now }
@@ -62,18 +70,21 @@ impl Header {
         self.main
     }
 
+    /// The SubType, as the number that the header has.
     pub fn sub(&self) -> u16
         ensures { result ≡ self.now.sub }
     {
         self.sub
     }
 
+    /// The version, which is 0 in every ISCC of ISO 24138:2024.
     pub fn version(&self) -> u16
         ensures { result ≡ self.now.version }
     {
         self.version
     }
 
+    /// The Length. Of a unit it tells how wide the body is, and of an ISCC-CODE which units it has.
     pub fn length(&self) -> u16
         ensures { result ≡ self.now.len }
     {
@@ -83,10 +94,10 @@ impl Header {
 
 /// The bytes of a header: 2 to 8 of them (ISO 24138:2024, header encoding).
 pub fn encode_header(header: &Header) -> ArrayVec<u8, 8>
-    ensures { SpellsHeader header.now result.items }
+    ensures { EncodesHeader header.now result.items }
 {
     let all = [header.main, header.sub, header.version, header.len];
-    let mut bits = Spelling { count: 0, value: 0 };
+    let mut bits = Encoding { count: 0, value: 0 };
     for number in all {
         bits = joined(bits, number);
     }
@@ -95,14 +106,14 @@ pub fn encode_header(header: &Header) -> ArrayVec<u8, 8>
 
 // The low `4 * count` bits of `value`.
 #[derive(Clone, Copy)]
-struct Spelling {
+struct Encoding {
     count: u32,
     value: u64,
 }
 
 // The bits with those of a number behind them.
-fn joined(front: Spelling, number: u16) -> Spelling
-    requires number { IsSpellable number }
+fn joined(front: Encoding, number: u16) -> Encoding
+    requires number { IsEncodable number }
     requires room { front.count ≤ 12 }
     requires fits { front.value < 2 ^ (4 * front.count) }
     ensures bits { bits_of (4 * result.count) result.value ≡ bits_of (4 * front.count) front.value ++ number_bits number }
@@ -113,14 +124,14 @@ fn joined(front: Spelling, number: u16) -> Spelling
         unreachable!()
     };
     let width = 4 * last.count as u32;
-    Spelling {
+    Encoding {
         count: front.count + last.count as u32,
         value: (front.value << width) + last.value as u64,
     }
 }
 
 // With one nibble 0 more, where the nibbles are odd in number.
-fn whole_bytes(bits: Spelling) -> Spelling
+fn whole_bytes(bits: Encoding) -> Encoding
     requires room { bits.count ≤ 16 }
     requires fits { bits.value < 2 ^ (4 * bits.count) }
     ensures bits { bits_of (4 * result.count) result.value ≡ padded (bits_of (4 * bits.count) bits.value) }
@@ -130,17 +141,17 @@ fn whole_bytes(bits: Spelling) -> Spelling
     if bits.count % 2 == 0 {
         return bits;
     }
-    Spelling {
+    Encoding {
         count: bits.count + 1,
         value: bits.value << 4,
     }
 }
 
 // The bytes of the bits, the highest first.
-fn bytes_of(bits: Spelling) -> ArrayVec<u8, 8>
+fn bytes_of(bits: Encoding) -> ArrayVec<u8, 8>
     requires even { bits.count % 2 ≡ 0 }
     requires room { bits.count ≤ 16 }
-    ensures spelled { byte_bits result.items ≡ bits_of (4 * bits.count) bits.value }
+    ensures encoded { byte_bits result.items ≡ bits_of (4 * bits.count) bits.value }
     ensures bytes { All IsByte result.items }
 {
     let mut bytes = ArrayVec::new();
@@ -156,8 +167,8 @@ fn bytes_of(bits: Spelling) -> ArrayVec<u8, 8>
 /// The four numbers are read in order, and the first fault is answered.
 pub fn decode_header(bytes: &[u8]) -> Result<(Header, usize), HeaderFault>
     ensures within { IfOk result (λ read. read.1 ≤ length bytes.now) }
-    ensures found { IfOk result (λ read. SpellsHeader read.0 (take read.1 bytes.now)) }
-    ensures complete { (header : Numbers) (front rest : List ℕ) → SpellsHeader header front
+    ensures found { IfOk result (λ read. EncodesHeader read.0 (take read.1 bytes.now)) }
+    ensures complete { (header : Numbers) (front rest : List ℕ) → EncodesHeader header front
         → bytes.now ≡ front ++ rest → result ≡ Ok (header, length front) }
     ensures short { (result ≡ Err HeaderFault.Short) ↔ EndsWithinHeader (byte_bits bytes.now) }
     ensures no_code { (result ≡ Err HeaderFault.NoCode) ↔ LacksNumber (byte_bits bytes.now) }

@@ -1,30 +1,37 @@
 ghost use Rattle.std.specs.Prelude.{◌≡◌, ◌<◌, ◌≤◌, ◌+◌, ◌-◌, ◌*◌, ◌^◌, ◌++◌, ◌↔◌, ℕ, List, length, IsNone, IfSome, IfOk, IsOkAnd, MatchResult};
 ghost use Rattle.iscc_header.specs.Bits.{bits_of};
-ghost use Rattle.iscc_header.specs.Headers.{number_bits, bits_from, IsSpellable, SpellsNumber, BeginsWithNumber, EndsWithinNumber, BeginsWithNoNumber};
-ghost use Rattle.iscc_header.specs.Reading.{ReadsNumber};
+ghost use Rattle.iscc_header.specs.Headers.{number_bits, bits_from, IsEncodable, EncodesNumber, BeginsWithNumber, EndsWithinNumber, BeginsWithNoNumber};
+ghost use Rattle.iscc_header.specs.inner.Reading.{ReadsNumber};
 
-/// The spelling of a number of a header: the low `4 * count` bits of `value`, the highest of them first.
+/// The greatest number that a header can have. Four nibbles that begin with the bits 1110 have 12 bits for the
+/// number, and what they encode begins at 584: 584 + 2^12 - 1.
+pub const NUMBER_MOST: u16 = 4679;
+
+/// The encoding of a number of a header: the low `4 * count` bits of `value`, the highest of them first.
 #[derive(Clone, Copy, Debug, PartialEq, Eq)]
 pub struct Nibbles {
+    /// How many nibbles it has, 1 to 4.
     pub count: u8,
+    /// The nibbles as one number, the first of them the highest.
     pub value: u16,
 }
 
 /// Why no number of a header stands at a place, in the order of the causes.
 #[derive(Clone, Copy, Debug, PartialEq, Eq)]
 pub enum NibbleFault {
-    /// The bytes end within a spelling.
+    /// The bytes end within an encoding.
     Short,
-    /// The nibble there is 15, with which no spelling begins.
+    /// The nibble there is 15, with which no encoding begins.
     NoCode,
 }
 
-/// The spelling of a number of a header, in 1 to 4 nibbles (ISO 24138:2024, header encoding).
+/// The encoding of a number of a header, in 1 to 4 nibbles (ISO 24138:2024, header encoding). A number above
+/// [`NUMBER_MOST`] has none.
 pub fn put_nibbles(n: u16) -> Option<Nibbles>
     ensures found { IfSome result (λ s. bits_of (4 * s.count) s.value ≡ number_bits n) }
     ensures fits { IfSome result (λ s. s.value < 2 ^ (4 * s.count)) }
     ensures count { IfSome result (λ s. s.count ≤ 4) }
-    ensures none { IsNone result ↔ (4679 < n) }
+    ensures none { IsNone result ↔ (NUMBER_MOST < n) }
 {
     match n {
         0..=7 => Some(Nibbles { count: 1, value: n }),
@@ -36,7 +43,7 @@ pub fn put_nibbles(n: u16) -> Option<Nibbles>
             count: 3,
             value: 0xC00 + (n - 72),
         }),
-        584..=4679 => Some(Nibbles {
+        584..=NUMBER_MOST => Some(Nibbles {
             count: 4,
             value: 0xE000 + (n - 584),
         }),
@@ -44,7 +51,7 @@ pub fn put_nibbles(n: u16) -> Option<Nibbles>
     }
 }
 
-/// Reads the number of a header at nibble place `at`, and gives the place after it.
+/// Reads the number of a header at nibble place `at`, and gives it with the place after it.
 ///
 /// Place 0 is the high half of the first byte, and place 1 its low half.
 pub fn get_nibbles(bytes: &[u8], at: usize) -> Result<(u16, usize), NibbleFault>
@@ -78,7 +85,7 @@ fn read_number(bytes: &[u8], at: usize) -> Result<(u16, usize), NibbleFault>
     }
 }
 
-// Some number from `least` on, by the nibbles that are left of its spelling.
+// Some number from `least` on, by the nibbles that are left of its encoding.
 fn read_rest(bytes: &[u8], at: usize, count: usize, least: u16) -> Result<(u16, usize), NibbleFault>
     requires within { at ≤ 2 * length bytes.now }
     requires few { count ≤ 3 }

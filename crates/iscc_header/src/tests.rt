@@ -67,8 +67,8 @@ fn distance_counts_the_bits_that_differ(rt: HostRuntime) {
     }
 }
 
-// A number, the hexadecimal digits of its spelling, and how many there are.
-const SPELLINGS: [(u16, u16, u8); 7] = [
+// A number, the hexadecimal digits of its encoding, and how many there are.
+const ENCODINGS: [(u16, u16, u8); 7] = [
     (7, 0x7, 1),
     (8, 0x80, 2),
     (71, 0xBF, 2),
@@ -79,8 +79,8 @@ const SPELLINGS: [(u16, u16, u8); 7] = [
 ];
 
 #[test]
-fn a_number_is_spelled_in_one_to_four_nibbles(rt: HostRuntime) {
-    for (n, value, count) in SPELLINGS {
+fn a_number_is_encoded_in_one_to_four_nibbles(rt: HostRuntime) {
+    for (n, value, count) in ENCODINGS {
         assert_eq!(rt; put_nibbles(n), Some(Nibbles { count, value }));
     }
     assert_eq!(rt; put_nibbles(4680), None);

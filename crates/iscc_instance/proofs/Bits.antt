@@ -1,7 +1,7 @@
 -- The bits of a count of chunks, and what changes in them when it goes up by one.
 use Rattle.std.proofs.Common.{◌≡◌, ℕ, ◌+◌, ◌-◌, ◌*◌, ◌/◌, ◌%◌, ◌^◌, ◌<◌, sym, ap, ◌∙◌, arith, shr-shr, pow-add, pow_pos}
 use Rattle.std.proofs.lemmas.Nat.{shr_split, shr_high}
-use Rattle.iscc_instance.specs.Subtrees.{first_above}
+use Rattle.iscc_instance.specs.inner.Subtrees.{first_above}
 
 -- a bit that is set adds its power of two
 pub first_above-bit : (n l : ℕ) → first_above n l ≡ first_above n (l + 1) + n / 2 ^ l % 2 * 2 ^ l

@@ -3,7 +3,7 @@ use Rattle.std.proofs.Common.{◌≡◌, ℕ, ◌+◌, ◌-◌, ◌*◌, List, �
 use Rattle.std.proofs.lemmas.List.{drop-drop, drop-append-le}
 use Rattle.std.proofs.Math.Seq.{drop-append-add, take-append-add}
 use Rattle.iscc_instance.specs.declared.state.State.{State}
-use Rattle.iscc_instance.specs.State.{HasBytes, state_len}
+use Rattle.iscc_instance.specs.inner.State.{HasBytes, state_len}
 
 pub HasBytes-length : (s : State) (bytes : List ℕ) → HasBytes s bytes → state_len s ≡ length bytes
 HasBytes-length s bytes has = omega (arith, has.stands.within, has.chunk.count, length-drop (1024 * s.subtrees.count) bytes)

@@ -10,7 +10,7 @@ use Rattle.blake3_core.specs.Compression.{iv}
 use Rattle.blake3_core.specs.Tree.{chunk_output, node_value, parent_output, subtree}
 use Rattle.blake3_core.proofs.Trees.{subtree-fits, subtree-splits}
 use Rattle.iscc_instance.specs.declared.subtrees.Subtrees.{Subtrees}
-use Rattle.iscc_instance.specs.Subtrees.{Stands, first_above, full_value}
+use Rattle.iscc_instance.specs.inner.Subtrees.{Stands, first_above, full_value}
 use Rattle.iscc_instance.proofs.Bits.{LowBitsSet, first_above-bit, next-above_same, next-above, next-high, next-low, LowBitsSet-more}
 
 pub full_value-append : (bytes more : List ℕ) (level first : ℕ) → 1024 * (first + 2 ^ level) ≤ length bytes

@@ -1,7 +1,7 @@
 -- What a contract sees of a hasher: the bytes so far.
 use Rattle.std.specs.Prelude.{ℕ, List}
 use Rattle.iscc_instance.specs.declared.hasher.Hasher.{Hasher}
-use Rattle.iscc_instance.specs.State.{HasBytes, state_len}
+use Rattle.iscc_instance.specs.inner.State.{HasBytes, state_len}
 
 -- how many bytes the hasher has taken
 unfoldable pub hasher_len : Hasher → ℕ

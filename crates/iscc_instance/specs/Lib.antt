@@ -1,5 +1,4 @@
 pub use Rattle.blake3_core.specs.Tree
 pub mod Hasher
 pub mod Instances
-pub mod State
-pub mod Subtrees
+pub mod inner

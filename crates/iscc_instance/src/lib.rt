@@ -4,7 +4,7 @@
 //! the input: the chunks before the last one are complete subtrees, of which it keeps the chaining
 //! values (`subtrees`), and of the last chunk it keeps a `ChunkState` (`state`).
 //!
-//! The first bits of a hash are the body of an Instance-Code ([`instance_unit`]).
+//! The first bits of a hash are the body of an Instance-Code ([`instance_unit`], [`instance_code`]).
 //!
 //! The layer below is `blake3_core`, with the compression function, chunks and parents, and `iscc_code`
 //! with units. Above stand the callers that hash files and request lines.
@@ -18,4 +18,4 @@ mod tests;
 mod unit;
 
 pub use hasher::Hasher;
-pub use unit::instance_unit;
+pub use unit::{instance_code, instance_unit};

@@ -3,7 +3,7 @@
 ghost use Rattle.std.specs.Prelude.{◌≡◌, ℕ, ◌+◌, ◌*◌, ◌^◌, ◌<◌, ◌≤◌, List, [], ◌++◌, length, drop};
 ghost use Rattle.blake3_core.specs.Chunk.{chunk_len};
 ghost use Rattle.blake3_core.specs.Tree.{hash};
-ghost use Rattle.iscc_instance.specs.Subtrees.{Stands};
+ghost use Rattle.iscc_instance.specs.inner.Subtrees.{Stands};
 
 use crate::subtrees::Subtrees;
 use blake3_core::{CHUNK_LEN, ChunkState, IV, chunk_value};
@@ -15,7 +15,7 @@ pub(crate) struct State {
 }
 
 impl State {
-    ghost use Rattle.iscc_instance.specs.State.{HasBytes, state_len};
+    ghost use Rattle.iscc_instance.specs.inner.State.{HasBytes, state_len};
 
     pub(crate) fn new() -> State
         ensures len { state_len result ≡ 0 }

@@ -18,7 +18,7 @@ pub(crate) struct Subtrees {
 }
 
 impl Subtrees {
-    ghost use Rattle.iscc_instance.specs.Subtrees.{Stands, full_value};
+    ghost use Rattle.iscc_instance.specs.inner.Subtrees.{Stands, full_value};
 
     pub(crate) fn new() -> Subtrees
         ensures count { result.count ≡ 0 }

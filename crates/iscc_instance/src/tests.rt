@@ -149,19 +149,19 @@ fn zeros_and_text_hash_as_b3sum_says(rt: HostRuntime) -> Result<(), Fail> {
 
 // The texts of these units are ISCC:IAA26E2JXH27TING and ISCC:IAAWIN5TVQ4EMUJT.
 #[test]
-fn an_instance_code_has_the_first_bits_of_the_hash(rt: HostRuntime) -> Result<(), Fail> {
+fn an_instance_code_has_the_first_bits_of_the_hash(rt: HostRuntime) {
     let cases: [(&[u8], u64); 2] = [
         (b"", 0xaf13_49b9_f5f9_a1a6),
         (b"abc", 0x6437_b3ac_3846_5133),
     ];
     for (input, body) in cases {
+        let unit = instance_code(input);
+        assert_eq!(rt; unit.kind.number(), 12);
+        assert_eq!(rt; unit.body, body);
         let mut hasher = Hasher::new();
         hasher.update(input);
-        let unit = instance_unit(&hasher.finalize(), 64);
-        let first = unit.first64().ok_or("no 64 bits")?;
-        assert_eq!(rt; first.kind.number(), 12);
-        assert_eq!(rt; first.body, body);
-        assert_eq!(rt; instance_unit(&hasher.finalize(), 256).bits(), 256);
+        let longest = instance_unit(&hasher.finalize(), 256);
+        assert_eq!(rt; longest.bits(), 256);
+        assert_eq!(rt; longest.first64(), Some(unit));
     }
-    Ok(())
 }

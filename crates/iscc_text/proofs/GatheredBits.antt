@@ -8,10 +8,11 @@ use Rattle.std.proofs.lemmas.List.{length_push, take_all, take-append-le, take_m
 use Rattle.std.proofs.lemmas.List.Elements.{All-push, All-nil}
 use Rattle.iscc_header.specs.Bits.{bits_of, byte_bits, IsByte}
 use Rattle.iscc_header.proofs.BitLists.{bits_of_split, bits_of-mod, bits_of-append, byte_bits-append}
-use Rattle.iscc_text.specs.Gathering.{Gathers}
+use Rattle.iscc_text.specs.inner.Gathering.{Gathers}
 use Rattle.iscc_text.specs.declared.gather.Gathered.{Gathered}
+use Rattle.iscc_text.specs.declared.gather.TheConstants.{KEPT}
 
-pub gathers_nothing : Gathers (record { kept = replicate 43 0; count = 0; width = 0; pending = 0 }) []
+pub gathers_nothing : Gathers (record { kept = replicate KEPT 0; count = 0; width = 0; pending = 0 }) []
 unfolding bits_of byte_bits
 gathers_nothing = record { bytes = []; range = All-nil IsByte; count = refl; array = refl; kept = refl; narrow = lit< tt; fits = lit< tt; whole = refl }
 
@@ -37,22 +38,22 @@ gathers_few bits digit all narrow low g = record {
 }
 
 -- what is kept with one byte more
-kept_more : (bytes kept : List ℕ) (count byte : ℕ) → count ≡ length bytes → length kept ≡ 43 → take 43 bytes ≡ take (min count 43) kept
-    → take 43 (bytes ++ byte ∷ []) ≡ take (min (count + 1) 43) (set kept count byte)
-kept_more bytes kept count byte is array e =
-    elim (cases_lt count 43) [
+kept_more : (most : ℕ) (bytes kept : List ℕ) (count byte : ℕ) → count ≡ length bytes → length kept ≡ most → take most bytes ≡ take (min count most) kept
+    → take most (bytes ++ byte ∷ []) ≡ take (min (count + 1) most) (set kept count byte)
+kept_more most bytes kept count byte is array e =
+    elim (cases_lt count most) [
       | inl room ↦
-          (let now : min count 43 ≡ count = omega arith in
-          let next : min (count + 1) 43 ≡ count + 1 = omega arith in
-          let all : bytes ≡ take count kept = sym (take_all 43 bytes (omega arith)) ∙ e ∙ ap (λ n. take n kept) now in
-          take_all 43 (bytes ++ byte ∷ []) (omega (arith, length_push bytes byte))
+          (let now : min count most ≡ count = omega arith in
+          let next : min (count + 1) most ≡ count + 1 = omega arith in
+          let all : bytes ≡ take count kept = sym (take_all most bytes (omega arith)) ∙ e ∙ ap (λ n. take n kept) now in
+          take_all most (bytes ++ byte ∷ []) (omega (arith, length_push bytes byte))
           ∙ ap (λ b. b ++ byte ∷ []) all
           ∙ sym (take_more_set kept count byte (omega arith))
           ∙ ap (λ n. take n (set kept count byte)) (sym next))
       | inr full ↦
-          (let now : min count 43 ≡ 43 = omega arith in
-          let next : 43 ≡ min (count + 1) 43 = omega arith in
-          take-append-le 43 bytes (byte ∷ []) (omega arith)
+          (let now : min count most ≡ most = omega arith in
+          let next : most ≡ min (count + 1) most = omega arith in
+          take-append-le most bytes (byte ∷ []) (omega arith)
           ∙ e
           ∙ ap₂ (λ n ks. take n ks) (now ∙ next) (sym (set_past kept count byte (omega arith))))
     ]
@@ -74,7 +75,7 @@ gathers_byte bits digit all kept wide low written g =
       range = All-push IsByte g.bytes byte g.range small;
       count = ap (λ n. n + 1) g.count ∙ sym (length_push g.bytes byte);
       array = ap length written ∙ length-set bits.kept bits.count byte ∙ g.array;
-      kept = kept_more g.bytes bits.kept bits.count byte g.count g.array g.kept ∙ ap (take (min (bits.count + 1) 43)) (sym written);
+      kept = kept_more KEPT g.bytes bits.kept bits.count byte g.count g.array g.kept ∙ ap (take (min (bits.count + 1) KEPT)) (sym written);
       narrow = omega (arith, g.narrow);
       fits = mod-lt p (pow_pos w);
       whole =

@@ -9,9 +9,9 @@ use Rattle.std.proofs.lemmas.List.Concat.{flat_map-append}
 use Rattle.iscc_header.specs.Bits.{bits_of}
 use Rattle.iscc_header.proofs.EachBelow.{each_below}
 use Rattle.iscc_text.specs.Base32.{letter}
-use Rattle.iscc_text.specs.Letters.{digit}
+use Rattle.iscc_text.specs.inner.Letters.{digit}
 use Rattle.iscc_text.specs.Texts.{is_letter, is_allowed, is_no_hyphen, capital, capitals}
-use Rattle.iscc_text.specs.Gathering.{letter_bits}
+use Rattle.iscc_text.specs.inner.Gathering.{letter_bits}
 
 -- a letter is below 91
 letter_low : (c : ℕ) → is_letter c ≡ true → c < 91

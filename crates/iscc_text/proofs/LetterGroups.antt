@@ -10,7 +10,7 @@ use Rattle.std.proofs.lemmas.List.Elements.{All-head, All-tail, All-nil, All-con
 use Rattle.iscc_header.specs.Bits.{bits_of, byte_bits, IsByte}
 use Rattle.iscc_header.proofs.BitLists.{length-bits_of, length-byte_bits, same_fronts, same_numbers, same_from_bits_of, same_bytes}
 use Rattle.iscc_text.specs.Base32.{letter, letters}
-use Rattle.iscc_text.specs.Letters.{digit}
+use Rattle.iscc_text.specs.inner.Letters.{digit}
 use Rattle.iscc_text.proofs.LetterDigits.{AreDigits}
 
 -- each is 0 or 1
@@ -155,3 +155,7 @@ pub one_list_of_bytes : (a b : List ℕ) → All IsByte a → All IsByte b → l
 one_list_of_bytes a b ra rb e =
     let g = groups (byte_bits a) (AreBits-byte_bits a) in
     sym (letters_tell g.digits a b g.width 0 g.small ra rb (omega (arith, g.narrow)) (pow_pos g.width) (sym g.filled) (sym g.same ∙ e)).2
+
+-- the letters of bytes are those of digits
+pub byte_digits : (bytes : List ℕ) → (digits : List ℕ) × AreDigits digits × (letters (byte_bits bytes) ≡ map letter digits)
+byte_digits bytes = (let g = groups (byte_bits bytes) (AreBits-byte_bits bytes) in (g.digits, g.small, g.same))

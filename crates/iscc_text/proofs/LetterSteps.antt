@@ -8,7 +8,7 @@ use Rattle.std.specs.Int.Digits.{number_from_digits}
 use Rattle.iscc_header.specs.Bits.{bits_of}
 use Rattle.iscc_header.specs.Kinds.{main_of, sub_of}
 use Rattle.iscc_header.specs.Headers.{header_bits}
-use Rattle.iscc_header.specs.Units.{IsUnit}
+use Rattle.iscc_header.specs.Unit64s.{IsUnit64}
 use Rattle.iscc_header.proofs.BitLists.{bits_of-append}
 use Rattle.iscc_header.proofs.EachBelow.{each_below}
 use Rattle.std.specs.Str.{bytes_eq}
@@ -62,7 +62,7 @@ all_written bytes total n i h left =
     sym (append-nil bytes) ∙ ap (λ k. bytes ++ letters (bits_of k n)) (sym none) ∙ left
 
 -- the bits of a unit as those of one number
-pub unit_bits_is : (unit : Unit64) → IsUnit unit → bits_of 80 (((main_of unit.kind * 16 + sub_of unit.kind) * 256 + 1) * 2 ^ 64 + unit.body) ≡ unit_bits unit
+pub unit_bits_is : (unit : Unit64) → IsUnit64 unit → bits_of 80 (((main_of unit.kind * 16 + sub_of unit.kind) * 256 + 1) * 2 ^ 64 + unit.body) ≡ unit_bits unit
 unit_bits_is unit h =
     bits_of-append 16 64 80 ((main_of unit.kind * 16 + sub_of unit.kind) * 256 + 1) unit.body h.body refl
     ∙ ap (λ front. front ++ bits_of 64 unit.body) (sym (header_is unit.kind h.kind))

@@ -7,11 +7,11 @@ use Rattle.std.proofs.lemmas.Nat.{pow_pos, pow-add}
 use Rattle.iscc_header.specs.Bits.{bits_of}
 use Rattle.iscc_header.specs.Kinds.{main_of, sub_of}
 use Rattle.iscc_text.specs.Base32.{letter, letters}
-use Rattle.iscc_text.specs.Letters.{digit, number_after}
+use Rattle.iscc_text.specs.inner.Letters.{digit, number_after}
 use Rattle.iscc_text.proofs.LetterSteps.{next_letter, unit_bits_is}
 use Rattle.iscc_header.specs.declared.unit.Unit64.{Unit64}
 use Rattle.iscc_text.specs.UnitText.{unit_bits, unit_text}
-use Rattle.iscc_header.specs.Units.{IsUnit}
+use Rattle.iscc_header.specs.Unit64s.{IsUnit64}
 use Rattle.iscc_header.proofs.KindFacts.{small_pair}
 
 digit_letter : (d : ℕ) → d < 32 → digit (letter d) ≡ d
@@ -61,15 +61,15 @@ length-letters (suc k) n = ap length (next_letter n (5 * k) (5 * suc k) (omega a
 abbrev pub unit_number : Unit64 → ℕ
 unit_number unit = ((main_of unit.kind * 16 + sub_of unit.kind) * 256 + 1) * 2 ^ 64 + unit.body
 
-pub length-unit_text : (unit : Unit64) → IsUnit unit → length (unit_text unit) ≡ 21
+pub length-unit_text : (unit : Unit64) → IsUnit64 unit → length (unit_text unit) ≡ 21
 unfolding unit_text
 length-unit_text unit h = ap (λ bits. length (codes "ISCC:" ++ letters bits)) (sym (unit_bits_is unit h)) ∙ ap (λ n. suc (suc (suc (suc (suc n))))) (length-letters 16 (unit_number unit))
 
-small_header : (unit : Unit64) → IsUnit unit → (main_of unit.kind * 16 + sub_of unit.kind) * 256 + 1 < 65536
+small_header : (unit : Unit64) → IsUnit64 unit → (main_of unit.kind * 16 + sub_of unit.kind) * 256 + 1 < 65536
 small_header unit h = let small = small_pair unit.kind h.kind in omega (arith, small.0, small.1)
 
 -- the letters of a unit's text give its number
-pub text_number : (unit : Unit64) → IsUnit unit → number_after 0 (letters (unit_bits unit)) ≡ unit_number unit
+pub text_number : (unit : Unit64) → IsUnit64 unit → number_after 0 (letters (unit_bits unit)) ≡ unit_number unit
 text_number unit h =
     ap (λ bits. number_after 0 (letters bits)) (sym (unit_bits_is unit h))
     ∙ number_of_letters (unit_number unit) (omega (arith, small_header unit h, h.body))
@@ -77,8 +77,8 @@ text_number unit h =
 pub number_parts : (header body : ℕ) → header < 65536 → body < 2 ^ 64 → ((header * 2 ^ 64 + body) / 2 ^ 64 % 65536 ≡ header) × ((header * 2 ^ 64 + body) % 2 ^ 64 ≡ body)
 number_parts header body h b = (omega arith, omega arith)
 
-pub unit_parts : (unit : Unit64) → IsUnit unit → (unit_number unit / 2 ^ 64 % 65536 ≡ (main_of unit.kind * 16 + sub_of unit.kind) * 256 + 1) × (unit_number unit % 2 ^ 64 ≡ unit.body)
-unit_parts unit h = number_parts _ unit.body (small_header unit h) h.body
+pub unit_number-parts : (unit : Unit64) → IsUnit64 unit → (unit_number unit / 2 ^ 64 % 65536 ≡ (main_of unit.kind * 16 + sub_of unit.kind) * 256 + 1) × (unit_number unit % 2 ^ 64 ≡ unit.body)
+unit_number-parts unit h = number_parts _ unit.body (small_header unit h) h.body
 
 abbrev pub made : ℕ → ℕ → Unit64
 made kind body = record { kind = kind; body = body }

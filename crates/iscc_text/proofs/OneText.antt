@@ -1,18 +1,19 @@
--- A text stands for one code at most, or has one first fault.
+-- A text stands for one ISCC at most, or has one first fault.
 use Rattle.std.proofs.Common.{◌≡◌, ℕ, ◌+◌, ◌<◌, ◌≤◌, List, [], ◌∷◌, ◌++◌, length, length-append, false, Result, Ok, Err, refl, sym, ◌∙◌, ap, arith, inl, inr, subst}
 use Rattle.std.specs.Prelude.{All, ◌⊎◌, is_ok}
 use Rattle.std.specs.List.{AllPass}
 use Rattle.std.proofs.lemmas.Bool.{false≢true}
 use Rattle.std.proofs.lemmas.List.Elements.{All-append, All-nil}
 use Rattle.iscc_header.specs.Bits.{byte_bits, IsByte}
-use Rattle.iscc_code.specs.Codes.{SpellsIscc, HasFault}
+use Rattle.iscc_code.specs.Codes.{EncodesIscc, HasFault}
 use Rattle.iscc_code.specs.declared.iscc.Iscc.{Iscc}
 use Rattle.iscc_code.specs.declared.iscc.IsccFault.{IsccFault}
-use Rattle.iscc_code.proofs.OneCode.{same_code, one_answer}
-use Rattle.iscc_text.specs.Texts.{is_blank, is_allowed, is_no_colon, capitals, IsScheme, AreLetters, StandsFor, LacksScheme, IsBehindScheme, LettersMean, ReadsText}
+use Rattle.iscc_code.proofs.OneCode.{same_iscc, one_answer}
+use Rattle.iscc_text.specs.Texts.{is_blank, is_allowed, is_no_colon, capitals, IsScheme, AreLetters, StandsFor, LacksScheme, IsBehindScheme}
+use Rattle.iscc_text.specs.inner.Reading.{LettersMean, ReadsText}
 use Rattle.iscc_text.specs.declared.read.TextFault.{TextFault}
 use Rattle.iscc_text.specs.declared.read.TextFault.TheVariants as faults
-use Rattle.iscc_text.proofs.SpelledBytes.{spelled_bytes}
+use Rattle.iscc_text.proofs.EncodedBytes.{encoded_bytes}
 use Rattle.iscc_text.proofs.TextBits.{same_letter_bytes}
 use Rattle.iscc_text.proofs.TextParts.{trimmed_core, allowed_no_colon, allowed_no_blank, scheme_letters, one_place, lacking_or_behind, one_other, other_or_allowed}
 
@@ -37,12 +38,12 @@ name_kept : (scheme m : List ℕ) → (scheme ≡ []) ⊎ IsScheme scheme → Al
 name_kept scheme m (inl none) allowed = inl (none, allowed_no_colon m allowed)
 name_kept scheme m (inr named) allowed = inr named
 
--- the parts of a text that stands for a code
+-- the parts of a text that stands for an ISCC
 stands_parts : (text : List ℕ) (iscc : Iscc) → StandsFor text iscc → (m : List ℕ) × (place : ℕ) × IsBehindScheme text m place × LettersMean m place (Ok iscc)
 stands_parts text iscc h =
-    let spelled = spelled_bytes iscc h.spelling h.spelled in
-    let are : AreLetters h.m h.spelling = record { range = spelled.0; same = h.same } in
-    let some = some_letters h.m h.spelling are spelled.1 in (
+    let encoded = encoded_bytes iscc h.encoding h.encoded in
+    let are : AreLetters h.m h.encoding = record { range = encoded.0; same = h.same } in
+    let some = some_letters h.m h.encoding are encoded.1 in (
       h.m,
       length h.before + length h.scheme,
       record {
@@ -53,7 +54,7 @@ stands_parts text iscc h =
         named = name_kept h.scheme h.m h.named h.allowed;
         at = refl;
       },
-      (h.allowed, (h.spelling, are, h.spelled)),
+      (h.allowed, (h.encoding, are, h.encoded)),
     )
 
 name_alone : (scheme m : List ℕ) → (scheme ≡ [] × AllPass is_no_colon m) ⊎ IsScheme scheme → (scheme ≡ []) ⊎ IsScheme scheme
@@ -67,13 +68,13 @@ reads_from text m place (Ok iscc) b h = record {
   scheme = b.scheme;
   m = m;
   after = b.after;
-  spelling = h.1.0;
+  encoding = h.1.0;
   whole = b.trimmed.whole;
   blanks = (b.trimmed.blank_before, b.trimmed.blank_after);
   named = name_alone b.scheme m b.named;
   allowed = h.0;
   same = h.1.1.same;
-  spelled = h.1.2;
+  encoded = h.1.2;
 }
 reads_from text m place (Err faults.Scheme) b h = absurd h
 reads_from text m place (Err (faults.Letter at)) b h = (m, place, b, h)
@@ -81,7 +82,7 @@ reads_from text m place (Err faults.Bits) b h = (m, place, b, h)
 reads_from text m place (Err (faults.Iscc fault)) b h = (m, place, b, h)
 
 -- letters mean one thing
-decodes_apart : (m : List ℕ) (a b : List ℕ) (iscc : Iscc) (fault : IsccFault) → AreLetters m a → AreLetters m b → SpellsIscc iscc a → HasFault b fault → ⊥
+decodes_apart : (m : List ℕ) (a b : List ℕ) (iscc : Iscc) (fault : IsccFault) → AreLetters m a → AreLetters m b → EncodesIscc iscc a → HasFault b fault → ⊥
 decodes_apart m a b iscc fault x y s f =
     let same : a ≡ b = same_letter_bytes m a b x y in
     let both : Ok iscc ≡ Err fault = one_answer a (Ok iscc) (Err fault) s (subst (λ t. HasFault t fault) (sym same) f) in
@@ -98,7 +99,7 @@ same_mean m p (Err faults.Scheme) b h k = absurd h
 same_mean m p (Ok u) (Err faults.Scheme) h k = absurd k
 same_mean m p (Ok u) (Ok v) h k =
     let same = same_letter_bytes m h.1.0 k.1.0 h.1.1 k.1.1 in
-    ap Ok (same_code u v h.1.0 h.1.2 (subst (λ t. SpellsIscc v t) (sym same) k.1.2))
+    ap Ok (same_iscc u v h.1.0 h.1.2 (subst (λ t. EncodesIscc v t) (sym same) k.1.2))
 same_mean m p (Ok u) (Err (faults.Letter at)) h k = absurd (other_or_allowed m p at k h.0)
 same_mean m p (Ok u) (Err faults.Bits) h k = absurd (k.1 h.1.0 h.1.1)
 same_mean m p (Ok u) (Err (faults.Iscc f)) h k = absurd (decodes_apart m h.1.0 k.1.0 u f h.1.1 k.1.1 h.1.2 k.1.2)
@@ -141,5 +142,5 @@ same_reading text a b (inr x) (inr y) =
 pub one_reading : (text : List ℕ) (a b : Result Iscc TextFault) → ReadsText text a → ReadsText text b → a ≡ b
 one_reading text a b h k = same_reading text a b (parts_of text a h) (parts_of text b k)
 
-pub one_code : (text : List ℕ) (a b : Iscc) → StandsFor text a → StandsFor text b → a ≡ b
-one_code text a b h k = (let same : Ok a ≡ Ok b = one_reading text (Ok a) (Ok b) h k in cc)
+pub one_iscc : (text : List ℕ) (a b : Iscc) → StandsFor text a → StandsFor text b → a ≡ b
+one_iscc text a b h k = (let same : Ok a ≡ Ok b = one_reading text (Ok a) (Ok b) h k in cc)

@@ -2,9 +2,9 @@
 use Rattle.std.proofs.Common.{◌≡◌, ℕ, ◌<◌, List, ◌++◌, map, sym, ◌∙◌, ap}
 use Rattle.std.specs.List.{AllPass}
 use Rattle.iscc_header.specs.Bits.{bits_of, byte_bits}
-use Rattle.iscc_text.specs.Letters.{digit}
+use Rattle.iscc_text.specs.inner.Letters.{digit}
 use Rattle.iscc_text.specs.Texts.{is_allowed, capitals, AreLetters}
-use Rattle.iscc_text.specs.Gathering.{Gathers, letter_bits}
+use Rattle.iscc_text.specs.inner.Gathering.{Gathers, letter_bits}
 use Rattle.iscc_text.specs.declared.gather.Gathered.{Gathered}
 use Rattle.iscc_text.proofs.LetterDigits.{text_digits}
 use Rattle.iscc_text.proofs.LetterGroups.{whole_letters, letters_tell, one_list_of_bytes}

@@ -1,8 +1,11 @@
 -- The parts of a text: blanks, scheme and letters, each found in one way.
 use Rattle.std.proofs.Common.{◌≡◌, ◌≢◌, ℕ, ◌+◌, ◌-◌, ◌<◌, ◌≤◌, List, [], ◌∷◌, ◌++◌, length, length-append, take, get_or, map, true, false, refl, sym, ◌∙◌, ap, ap₂, append_assoc, arith, inl, inr}
-use Rattle.std.specs.Prelude.{All, Bool, ◌==◌, ◌&&◌, not, nat_le, ◌⊎◌, codes}
+use Rattle.std.specs.Prelude.{All, Bool, ◌==◌, not, ◌⊎◌, codes}
 use Rattle.std.specs.List.{AllPass}
-use Rattle.std.proofs.lemmas.Bool.{both_ways, cases_lt, and_parts, or_cases, eqb-true, leb-true, ne_eqb, cases_Bool, cases_eq}
+use Rattle.std.specs.Char.{to_ascii_uppercase, to_ascii_lowercase}
+use Rattle.std.proofs.lemmas.Bool.Decides.{nat_tests}
+use Rattle.std.proofs.lemmas.Str.Ascii.{uppercase_is, lowercase-uppercase}
+use Rattle.std.proofs.lemmas.Bool.{both_ways, cases_lt, or_cases, eqb-true, ne_eqb, cases_eq}
 use Rattle.std.proofs.lemmas.List.{get_or_append_left, get_or-append_right, get_or_at, length-map, map-append}
 use Rattle.std.proofs.lemmas.List.Elements.{All-nil, All-cons, All-weaker}
 use Rattle.iscc_header.proofs.BitLists.{same_fronts}
@@ -59,11 +62,13 @@ one_trim text b c a b' c' a' t u =
 capital_cases : (b : ℕ) → (capital b ≡ b) ⊎ ((97 ≤ b) × (b ≤ 122) × (capital b ≡ b - 32))
 unfolding capital
 capital_cases b =
-    elim (cases_Bool (nat_le 97 b && nat_le b 122)) [
-      | inl small ↦
-          (let parts = and_parts (nat_le 97 b) (nat_le b 122) small in
-          inr (leb-true 97 b parts.0, leb-true b 122 parts.1, rw small refl))
-      | inr large ↦ inl (rw large refl)
+    let is = uppercase_is b in
+    elim (cases_lt b 97) [
+      | inl below ↦ inl (is.1 below)
+      | inr from ↦ elim (cases_lt 122 b) [
+        | inl above ↦ inl (is.2 above)
+        | inr small ↦ inr (from, small, omega (arith, is.0 (from, small)))
+      ]
     ]
 
 colon_from_capital : (b : ℕ) → capital b ≡ 58 → b ≡ 58
@@ -224,3 +229,27 @@ other_or_allowed m p x a all =
     let at : get_or m (length a.good) 0 ≡ a.other = ap (λ t. get_or t (length a.good) 0) a.whole ∙ get_or_at a.good a.other a.rest 0 (length a.good) refl in
     let within : length a.good < length m = omega (arith, ap length a.whole, length-append a.good (a.other ∷ a.rest)) in
     both_ways (is_allowed a.other) a.unallowed (ap is_allowed (sym at) ∙ all (length a.good) 0 within)
+
+-- a small letter has the capital that it had
+uppercase-lowercase : (b : ℕ) → to_ascii_uppercase (to_ascii_lowercase b) ≡ to_ascii_uppercase b
+uppercase-lowercase b = grind (arith, nat_tests)
+
+in_capitals : (m : List ℕ) → map capital (map to_ascii_lowercase m) ≡ map capital m
+unfolding capital
+in_capitals [] = refl
+in_capitals (b ∷ m) = ap₂ (λ x xs. x ∷ xs) (uppercase-lowercase b) (in_capitals m)
+
+in_small : (m : List ℕ) → map to_ascii_lowercase (map capital m) ≡ map to_ascii_lowercase m
+unfolding capital
+in_small [] = refl
+in_small (b ∷ m) = ap₂ (λ x xs. x ∷ xs) (lowercase-uppercase b) (in_small m)
+
+-- the name of the scheme, in small letters and in capitals
+pub name_in_capitals : (name : List ℕ)
+    → (map to_ascii_lowercase name ≡ map to_ascii_lowercase (codes "iscc") → map capital name ≡ codes "ISCC")
+    × (map capital name ≡ codes "ISCC" → map to_ascii_lowercase name ≡ map to_ascii_lowercase (codes "iscc"))
+unfolding capital
+name_in_capitals name = (
+  λ small. sym (in_capitals name) ∙ ap (map capital) small,
+  λ large. sym (in_small name) ∙ ap (map to_ascii_lowercase) large,
+)

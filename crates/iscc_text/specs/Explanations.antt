@@ -1,19 +1,16 @@
--- The explanation of a code, as JSON data. The names are those of ISO 24138:2024.
-use Rattle.std.specs.Prelude.{◌≡◌, ◌*◌, ◌++◌, ℕ, List, length, map, codes, ◌==◌, ◌||◌, if◌then◌else◌}
-use Rattle.std.specs.Int.{w64, to_be_bytes}
+-- The explanation of an ISCC, as JSON data. The names are those of ISO 24138:2024.
+use Rattle.std.specs.Prelude.{◌≡◌, ◌*◌, ℕ, List, length, map, codes, ◌==◌, ◌||◌, if◌then◌else◌}
 use Rattle.serde_json.specs.Data.{Data, number, unsigned, string, array, object, member, no_members}
 use Rattle.serde_json.specs.View.{items_of}
 use Rattle.hex.specs.Hex.{encode_lower}
-use Rattle.iscc_header.specs.Bits.{byte_bits}
 use Rattle.iscc_header.specs.Kinds.{main_of, sub_of}
 use Rattle.iscc_header.specs.declared.unit.Unit64.{Unit64}
-use Rattle.iscc_code.specs.Units.{UnitParts}
+use Rattle.iscc_code.specs.Units.{UnitParts, unit_parts}
 use Rattle.iscc_code.specs.Composites.{CodeParts, code_units}
-use Rattle.iscc_code.specs.Codes.{SpellsIscc}
 use Rattle.iscc_code.specs.declared.iscc.Iscc.{Iscc}
 use Rattle.iscc_code.specs.declared.iscc.Iscc.TheVariants as variants
-use Rattle.iscc_text.specs.Base32.{letters}
 use Rattle.iscc_text.specs.UnitText.{unit_text}
+use Rattle.iscc_text.specs.PrintedTexts.{IsPrintedText}
 
 -- the name of a MainType, by its number
 abbrev pub main_name : ℕ → List ℕ
@@ -55,9 +52,9 @@ unit_data unit text =
     (member (codes "sub") (string (sub_name (main_of unit.kind) (sub_of unit.kind)))
     (member (codes "text") (string text) no_members)))))
 
--- a unit of 64 bits, its first bit the highest of its first byte
+-- a unit of 64 bits with its printed text
 abbrev pub unit64_data : Unit64 → Data
-unit64_data unit = unit_data (record { kind = unit.kind; body = to_be_bytes w64 unit.body }) (unit_text unit)
+unit64_data unit = unit_data (unit_parts unit) (unit_text unit)
 
 -- an ISCC-CODE with its printed text, and its units in their order
 abbrev pub code_data : CodeParts → List ℕ → Data
@@ -68,13 +65,13 @@ code_data code text =
     (member (codes "text") (string text)
     (member (codes "units") (array (items_of (map unit64_data (code_units code)))) no_members))))
 
--- the data of a code with this text
+-- the data of an ISCC with this text
 abbrev pub iscc_data : Iscc → List ℕ → Data
 iscc_data (variants.Unit unit) text = unit_data unit text
 iscc_data (variants.Code code) text = code_data code text
 
--- this data explains the code: it has the code's printed text
+-- this data explains the ISCC: it has the printed text
 pub record Explains (iscc : Iscc) (explanation : Data) : Type 0 where
-  pub spelling : List ℕ
-  pub spelled : SpellsIscc iscc spelling
-  pub same : explanation ≡ iscc_data iscc (codes "ISCC:" ++ letters (byte_bits spelling))
+  pub text : List ℕ
+  pub printed : IsPrintedText iscc text
+  pub same : explanation ≡ iscc_data iscc text

@@ -1,9 +1,10 @@
-pub use Rattle.iscc_header.specs.Units
+pub use Rattle.iscc_header.specs.Unit64s
 pub use Rattle.iscc_header.specs.Headers
 pub use Rattle.iscc_code.specs.Codes
 pub mod Base32
 pub mod UnitText
-pub mod Letters
+pub mod PrintedTexts
+pub mod Laws
 pub mod Texts
 pub mod Explanations
-pub mod Gathering
+pub mod inner

@@ -1,8 +1,9 @@
--- Texts of codes: what a text stands for, and the fault of every other text (ISO 24138:2024; RFC 4648, section 6).
-use Rattle.std.specs.Prelude.{◌≡◌, ◌≢◌, ◌+◌, ◌-◌, ℕ, List, [], ◌∷◌, ◌++◌, length, slice_index_or, map, filter, codes, ◌==◌, ◌&&◌, ◌||◌, not, nat_le, if◌then◌else◌, Bool, false, All, ◌⊎◌, Result, Ok, Err}
+-- Texts of ISCCs: what a text stands for, and the fault of every other text (ISO 24138:2024; RFC 4648, section 6).
+use Rattle.std.specs.Prelude.{◌≡◌, ◌≢◌, ◌+◌, ◌-◌, ℕ, List, [], ◌∷◌, ◌++◌, length, slice_index_or, map, filter, codes, ◌==◌, ◌&&◌, ◌||◌, not, nat_le, Bool, false, All, ◌⊎◌}
 use Rattle.std.specs.List.{AllPass}
+use Rattle.std.specs.Char.{to_ascii_uppercase}
 use Rattle.iscc_header.specs.Bits.{byte_bits, IsByte}
-use Rattle.iscc_code.specs.Codes.{SpellsIscc, HasFault}
+use Rattle.iscc_code.specs.Codes.{EncodesIscc, HasFault}
 use Rattle.iscc_code.specs.declared.iscc.Iscc.{Iscc}
 use Rattle.iscc_text.specs.Base32.{letters}
 use Rattle.iscc_text.specs.declared.read.TextFault.{TextFault}
@@ -12,9 +13,9 @@ use Rattle.iscc_text.specs.declared.read.TextFault.TheVariants as faults
 unfoldable pub is_blank : ℕ → Bool
 is_blank b = (b == 32) || (b == 9)
 
--- a small letter as its capital
+-- a small letter as its capital, any other byte as it is
 unfoldable pub capital : ℕ → ℕ
-capital b = if nat_le 97 b && nat_le b 122 then b - 32 else b
+capital b = to_ascii_uppercase b
 
 -- `A` to `Z` or `2` to `7`
 unfoldable pub is_letter : ℕ → Bool
@@ -24,9 +25,11 @@ is_letter b = (nat_le 65 b && nat_le b 90) || (nat_le 50 b && nat_le b 55)
 unfoldable pub is_allowed : ℕ → Bool
 is_allowed b = (b == 45) || is_letter (capital b)
 
+-- any byte but a colon
 abbrev pub is_no_colon : ℕ → Bool
 is_no_colon b = not (b == 58)
 
+-- any byte but a hyphen
 abbrev pub is_no_hyphen : ℕ → Bool
 is_no_hyphen b = not (b == 45)
 
@@ -43,19 +46,19 @@ pub record AreLetters (m bytes : List ℕ) : Type 0 where
   pub range : All IsByte bytes
   pub same : capitals m ≡ letters (byte_bits bytes)
 
--- The text stands for the code: blanks, then nothing or the scheme, then the letters of its spelling, then blanks.
+-- The text stands for the ISCC: blanks, then nothing or the scheme, then the letters of its encoding, then blanks.
 pub record StandsFor (text : List ℕ) (iscc : Iscc) : Type 0 where
   pub before : List ℕ
   pub scheme : List ℕ
   pub m : List ℕ
   pub after : List ℕ
-  pub spelling : List ℕ
+  pub encoding : List ℕ
   pub whole : text ≡ before ++ (scheme ++ m ++ after)
   pub blanks : AllPass is_blank before × AllPass is_blank after
   pub named : (scheme ≡ []) ⊎ IsScheme scheme
   pub allowed : AllPass is_allowed m
-  pub same : capitals m ≡ letters (byte_bits spelling)
-  pub spelled : SpellsIscc iscc spelling
+  pub same : capitals m ≡ letters (byte_bits encoding)
+  pub encoded : EncodesIscc iscc encoding
 
 -- The text without the blanks at its ends. A text of blanks alone has them all before.
 pub record IsTrimmed (text before core after : List ℕ) : Type 0 where
@@ -94,20 +97,14 @@ pub record HasOther (m : List ℕ) (place at : ℕ) : Type 0 where
   pub unallowed : is_allowed other ≡ false
   pub is : at ≡ place + length good
 
--- what the letters from this place on stand for, or their first fault
-abbrev pub LettersMean : List ℕ → ℕ → Result Iscc TextFault → Type 0
-LettersMean m place (Ok iscc) = AllPass is_allowed m × ((bytes : List ℕ) × AreLetters m bytes × SpellsIscc iscc bytes)
-LettersMean m place (Err faults.Scheme) = ⊥
-LettersMean m place (Err (faults.Letter at)) = HasOther m place at
-LettersMean m place (Err faults.Bits) = AllPass is_allowed m × ((bytes : List ℕ) → AreLetters m bytes → ⊥)
-LettersMean m place (Err (faults.Iscc fault)) = AllPass is_allowed m × ((bytes : List ℕ) × AreLetters m bytes × HasFault bytes fault)
+-- the letters from this place on have this first fault
+abbrev pub HasLetterFault : List ℕ → ℕ → TextFault → Type 0
+HasLetterFault m place faults.Scheme = ⊥
+HasLetterFault m place (faults.Letter at) = HasOther m place at
+HasLetterFault m place faults.Bits = AllPass is_allowed m × ((bytes : List ℕ) → AreLetters m bytes → ⊥)
+HasLetterFault m place (faults.Iscc fault) = AllPass is_allowed m × ((bytes : List ℕ) × AreLetters m bytes × HasFault bytes fault)
 
--- the text stands for no code, and this is its first fault
+-- the text stands for no ISCC, and this is its first fault
 abbrev pub HasTextFault : List ℕ → TextFault → Type 0
 HasTextFault text faults.Scheme = LacksScheme text
-HasTextFault text fault = (m : List ℕ) × (place : ℕ) × IsBehindScheme text m place × LettersMean m place (Err fault)
-
--- the code that the text stands for, or its first fault
-abbrev pub ReadsText : List ℕ → Result Iscc TextFault → Type 0
-ReadsText text (Ok iscc) = StandsFor text iscc
-ReadsText text (Err fault) = HasTextFault text fault
+HasTextFault text fault = (m : List ℕ) × (place : ℕ) × IsBehindScheme text m place × HasLetterFault m place fault

@@ -1,9 +1,8 @@
 -- The one printed text of a unit of 64 bits (ISO 24138:2024, canonical form).
-use Rattle.std.specs.Prelude.{◌≡◌, List, ℕ, ◌++◌, codes}
+use Rattle.std.specs.Prelude.{List, ℕ, ◌++◌, codes}
 use Rattle.iscc_header.specs.Bits.{bits_of}
 use Rattle.iscc_header.specs.Kinds.{main_of, sub_of}
 use Rattle.iscc_header.specs.Headers.{header_bits}
-use Rattle.iscc_header.specs.Units.{IsUnit}
 use Rattle.iscc_header.specs.declared.unit.Unit64.{Unit64}
 use Rattle.iscc_text.specs.Base32.{letters}
 
@@ -14,7 +13,3 @@ unit_bits unit = header_bits (main_of unit.kind) (sub_of unit.kind) 0 1 ++ bits_
 -- the scheme and the letters of the bits, without padding characters
 unfoldable pub unit_text : Unit64 → List ℕ
 unit_text unit = codes "ISCC:" ++ letters (unit_bits unit)
-
--- a text is that of one unit
-abbrev pub TextTellsUnit : Type 0
-TextTellsUnit = (a b : Unit64) → IsUnit a → IsUnit b → unit_text a ≡ unit_text b → a ≡ b

@@ -1,6 +1,7 @@
-ghost use Rattle.std.specs.Prelude.{◌≡◌, ◌≤◌, length, map, IfOk};
+ghost use Rattle.std.specs.Prelude.{◌≡◌, ◌≤◌, length, map, false, IfOk};
 ghost use Rattle.serde_json.specs.Data.{array};
 ghost use Rattle.serde_json.specs.View.{view, items_of};
+ghost use Rattle.serde_json.specs.Written.{has_float};
 ghost use Rattle.iscc_header.specs.Kinds.{main_number};
 ghost use Rattle.iscc_text.specs.Explanations.{Explains, main_name, media_name, sub_name, code_sub_name, unit_data, unit64_data, code_data};
 
@@ -14,18 +15,24 @@ use std::alloc::{AllocError, Global};
 ///
 /// A unit has `bits`, `body` in small hexadecimal digits, `main`, `sub` and `text`, with the names of
 /// ISO 24138:2024 in capitals. A unit that is neither SEMANTIC nor CONTENT has the SubType `NONE`. An ISCC-CODE has
-/// `main`, `sub`, `text` and `units`, the objects of its units.
+/// `main`, `sub`, `text` and `units`, the objects of its units. No number in it is a float.
 pub fn explain(alloc: Global, iscc: &Iscc) -> Result<Value, NoMemory>
+    ensures explains { IfOk result (λ value. Explains iscc.now (view value)) }
+    ensures whole_numbers { IfOk result (λ value. has_float (view value) ≡ false) }
+{
+    match iscc_value(alloc, iscc) {
+        Ok(value) => Ok(value),
+        Err(AllocError) => Err(NoMemory),
+    }
+}
+
+fn iscc_value(alloc: Global, iscc: &Iscc) -> Result<Value, AllocError>
     ensures { IfOk result (λ value. Explains iscc.now (view value)) }
 {
     let text = print_iscc(iscc);
-    let value = match iscc {
+    match iscc {
         Iscc::Unit(unit) => unit_value(alloc, unit.kind(), unit.body(), text.as_str()),
         Iscc::Code(code) => code_value(alloc, code, text.as_str()),
-    };
-    match value {
-        Ok(value) => Ok(value),
-        Err(_) => Err(NoMemory),
     }
 }
 

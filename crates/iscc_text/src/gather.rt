@@ -1,17 +1,17 @@
-ghost use Rattle.std.specs.Prelude.{◌≡◌, ◌<◌, ◌≤◌, ◌+◌, ◌^◌, [], ◌∷◌, ◌++◌, ℕ, List, true, slice_set};
+ghost use Rattle.std.specs.Prelude.{◌≡◌, ◌<◌, ◌≤◌, ◌+◌, ◌^◌, [], ◌∷◌, ◌++◌, ◌↔◌, ℕ, List, IsTrue, slice_set};
 ghost use Rattle.std.specs.List.{AllPass};
 ghost use Rattle.iscc_header.specs.Bits.{bits_of};
-ghost use Rattle.iscc_text.specs.Letters.{digit as digit_of};
-ghost use Rattle.iscc_text.specs.Texts.{capital, is_allowed};
-ghost use Rattle.iscc_text.specs.Gathering.{Gathers, letter_bits};
+ghost use Rattle.iscc_text.specs.inner.Letters.{digit as digit_of};
+ghost use Rattle.iscc_text.specs.Texts.{is_allowed};
+ghost use Rattle.iscc_text.specs.inner.Gathering.{Gathers, letter_bits};
 
-/// How many bytes are kept: one more than the longest code has, so that what is longer is still too long.
+/// How many bytes are kept: one more than the longest ISCC has, so that what is longer is still too long.
 pub(crate) const KEPT: usize = 43;
 
-/// Bits that become bytes: the first 43 bytes, the number of all of them, and the bits behind the last one.
+/// Bits that become bytes: the first of these bytes, the number of all, and the bits behind the last one.
 #[derive(Drop)]
 pub(crate) struct Gathered {
-    pub kept: [u8; 43],
+    pub kept: [u8; KEPT],
     pub count: usize,
     pub width: u32,
     pub pending: u32,
@@ -23,7 +23,7 @@ pub(crate) fn gather(letters: &[u8]) -> Gathered
     ensures { Gathers result (letter_bits letters.now) }
 {
     let mut bits = Gathered {
-        kept: [0; 43],
+        kept: [0; KEPT],
         count: 0,
         width: 0,
         pending: 0,
@@ -32,6 +32,13 @@ pub(crate) fn gather(letters: &[u8]) -> Gathered
         add(&mut bits, *byte);
     }
     bits
+}
+
+/// The bits are those of whole bytes: no letter is more than these need, and no bit behind them is 1.
+pub(crate) fn is_whole(bits: &Gathered) -> bool
+    ensures { IsTrue result ↔ ((bits.now.width < 5) × (bits.now.pending ≡ 0)) }
+{
+    bits.width < 5 && bits.pending == 0
 }
 
 // A hyphen gives no bits.
@@ -45,33 +52,18 @@ fn add(bits: &mut Gathered, byte: u8)
     if byte == b'-' {
         return;
     }
-    push(bits, digit(byte));
+    push(bits, digit(byte.to_ascii_uppercase()));
 }
 
-// The five bits of a letter in either case.
-fn digit(byte: u8) -> u8
-    ensures value { result ≡ digit_of (capital byte) }
+/// The five bits of a capital letter, and some five bits of any other byte.
+pub(crate) fn digit(byte: u8) -> u8
+    ensures value { result ≡ digit_of byte }
     ensures range { result < 32 }
 {
-    let capital = in_capitals(byte);
-    if capital < b'A' {
-        (capital + 8) % 32
+    if byte < b'A' {
+        (byte + 8) % 32
     } else {
-        (capital - b'A') % 32
-    }
-}
-
-/// A small letter as its capital.
-#[tactic(auto, unfolding(crate::specs::Texts::capital))]
-pub(crate) fn in_capitals(byte: u8) -> u8
-    ensures value { result ≡ capital byte }
-    ensures least { byte ≤ result + 32 }
-    ensures most { result ≤ byte }
-{
-    if byte >= b'a' && byte <= b'z' {
-        byte - 32
-    } else {
-        byte
+        (byte - b'A') % 32
     }
 }
 
@@ -97,7 +89,7 @@ fn push(bits: &mut Gathered, digit: u8)
 }
 
 // Keeps a byte, where it is one of the first.
-fn keep(kept: &mut [u8; 43], at: usize, byte: u8)
+fn keep(kept: &mut [u8; KEPT], at: usize, byte: u8)
     ensures { kept.new ≡ slice_set kept.old at byte }
 {
     if at < KEPT {

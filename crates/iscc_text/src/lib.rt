@@ -2,8 +2,9 @@
 //! reading of a text (ISO 24138:2024, canonical form; RFC 4648, section 6).
 //!
 //! It stands on `iscc_code`, whose bytes it prints and reads. Request lines, replies and histories of the
-//! crates above are made of these texts. `specs/Texts.antt` has what a text stands for and the fault of every
-//! other text, and `specs/UnitText.antt` the one printed text of a unit of 64 bits.
+//! crates above are made of these texts. `specs/PrintedTexts.antt` has the printed text of an ISCC, `specs/Texts.antt`
+//! what a text stands for and the fault of every other text, and `specs/UnitText.antt` the printed text of a unit
+//! of 64 bits as a formula.
 #![tactic(auto)]
 
 mod explanation;
@@ -13,7 +14,10 @@ mod print;
 mod read;
 
 pub use explanation::explain;
-pub use laws::{a_printed_text_is_of_one_unit, each_text_stands_for_one_code};
+pub use laws::{
+    a_printed_text_is_of_one_unit, a_printed_text_stands_for_its_iscc, a_unit_text_is_printed,
+    each_iscc_has_one_printed_text, each_text_stands_for_one_iscc,
+};
 pub use print::{print_iscc, print_unit};
 pub use read::{TextFault, read_iscc, read_printed};
 

@@ -1,32 +1,46 @@
-ghost use Rattle.std.specs.Prelude.{◌≡◌, ◌<◌, ◌≤◌, ◌+◌, ◌*◌, [], ◌∷◌, ◌++◌, ℕ, List, length, drop, slice_index, codes};
-ghost use Rattle.iscc_header.specs.Bits.{bits_of, byte_bits};
-ghost use Rattle.iscc_code.specs.Codes.{SpellsIscc};
-ghost use Rattle.iscc_text.specs.Base32.{letters};
+ghost use Rattle.std.specs.Prelude.{◌≡◌, ◌<◌, ◌≤◌, ◌+◌, ◌*◌, [], ◌∷◌, ◌++◌, length, drop, slice_index};
 ghost use Rattle.arrayvec.specs.ArrayString.{array_string_len};
+ghost use Rattle.iscc_header.specs.Bits.{bits_of, byte_bits};
+ghost use Rattle.iscc_header.specs.Kinds.{main_of, sub_of};
+ghost use Rattle.iscc_header.specs.Unit64s.{IsUnit64};
+ghost use Rattle.iscc_code.specs.Units.{unit_parts};
+ghost use Rattle.iscc_code.specs.declared.iscc.Iscc.TheVariants.{Unit as AUnit};
 ghost use Rattle.iscc_text.specs.Base32.{letter};
-ghost use Rattle.iscc_header.specs.Units.{IsUnit};
 ghost use Rattle.iscc_text.specs.UnitText.{unit_text};
+ghost use Rattle.iscc_text.specs.PrintedTexts.{IsPrintedText};
+ghost use Rattle.iscc_text.specs.Texts.{StandsFor};
 
 use arrayvec::ArrayString;
 use iscc_code::{Iscc, encode};
-use iscc_header::Unit64;
+use iscc_header::{Kind, Unit64};
 
-// 16 bits of header and 64 bits of body, in letters of five bits.
-const LETTERS: u32 = 16;
+/// What a printed text begins with.
+pub(crate) const SCHEME: &str = "ISCC:";
 
-/// The printed text of a unit: `ISCC:` and 16 capital letters of base32 (RFC 4648, section 6), the header first.
+/// The letters of a unit of 64 bits: 16 bits of header and 64 bits of body, five to a letter.
+pub(crate) const LETTERS: usize = 16;
+
+// MainType and SubType take a nibble of the header each, and Version and Length the byte behind them.
+const NIBBLE: u32 = 16;
+
+const BYTE: u32 = 256;
+
+// Version 0, and the Length that stands for 64 bits.
+const VERSION_AND_LENGTH: u32 = 1;
+
+/// The printed text of a unit of 64 bits: `ISCC:` and 16 capital letters of base32 (RFC 4648, section 6), the header
+/// first.
 ///
-/// Takes no memory. The capacity is that of the longest printed text of any ISCC.
+/// Takes no memory.
 pub fn print_unit(unit: &Unit64) -> ArrayString<80>
     ensures text { result.bytes ≡ unit_text unit.now }
-    ensures range { IsUnit unit.now }
+    ensures printed { IsPrintedText (AUnit (unit_parts unit.now)) result.bytes }
+    ensures stands { StandsFor result.bytes (AUnit (unit_parts unit.now)) }
+    ensures range { IsUnit64 unit.now }
 {
-    let main = unit.kind.main().number() as u128;
-    let sub = unit.kind.sub() as u128;
-    let header = (main * 16 + sub) * 256 + 1;
-    let bits = header * (1 << 64) + unit.body as u128;
+    let bits = header_number(unit.kind) as u128 * (1 << 64) + unit.body as u128;
     let mut text = ArrayString::new();
-    text.push_str("ISCC:");
+    text.push_str(SCHEME);
     for i in 0..LETTERS {
         let place = 5 * (LETTERS - 1 - i);
         push_letter(&mut text, ((bits >> place) % 32) as u8);
@@ -34,17 +48,27 @@ pub fn print_unit(unit: &Unit64) -> ArrayString<80>
     text
 }
 
+// The header of a unit of 64 bits, as the number that its 16 bits are.
+fn header_number(kind: Kind) -> u32
+    ensures value { result ≡ (main_of kind * 16 + sub_of kind) * 256 + 1 }
+    ensures range { kind < 13 }
+{
+    let main = kind.main().number() as u32;
+    let sub = kind.sub() as u32;
+    (main * NIBBLE + sub) * BYTE + VERSION_AND_LENGTH
+}
+
 /// The printed text of an ISCC: `ISCC:` and the capital letters of its bytes, without padding characters.
 ///
 /// Takes no memory.
 pub fn print_iscc(iscc: &Iscc) -> ArrayString<80>
-    ensures { (spelling : List ℕ) × SpellsIscc iscc.now spelling
-        × (result.bytes ≡ codes "ISCC:" ++ letters (byte_bits spelling)) }
+    ensures printed { IsPrintedText iscc.now result.bytes }
+    ensures stands { StandsFor result.bytes iscc.now }
 {
     let bytes = encode(iscc);
     let bytes = bytes.as_slice();
     let mut text = ArrayString::new();
-    text.push_str("ISCC:");
+    text.push_str(SCHEME);
     for i in 0..(8 * bytes.len() + 4) / 5 {
         push_letter(&mut text, digit_at(bytes, i));
     }

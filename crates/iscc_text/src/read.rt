@@ -2,15 +2,16 @@ ghost use Rattle.std.specs.Prelude.{◌≡◌, ◌≢◌, ◌<◌, ◌≤◌, �
 ghost use Rattle.std.specs.List.{AllPass};
 ghost use Rattle.iscc_code.specs.declared.iscc.Iscc.{Iscc as AnIscc};
 ghost use Rattle.iscc_text.specs.declared.read.TextFault.{TextFault as AFault};
-ghost use Rattle.iscc_text.specs.Texts.{StandsFor, HasTextFault, ReadsText, LettersMean, IsScheme, is_blank, is_allowed, is_no_colon, capital};
+ghost use Rattle.iscc_text.specs.Texts.{StandsFor, HasTextFault, IsScheme, is_blank, is_allowed, is_no_colon, capital};
+ghost use Rattle.iscc_text.specs.inner.Reading.{ReadsText, LettersMean};
 ghost use Rattle.iscc_header.specs.declared.unit.Unit64.{Unit64 as AUnit};
 ghost use Rattle.iscc_header.specs.Kinds.{main_of, sub_of};
-ghost use Rattle.iscc_header.specs.Units.{IsUnit};
+ghost use Rattle.iscc_header.specs.Unit64s.{IsUnit64};
 ghost use Rattle.iscc_text.specs.UnitText.{unit_text};
-ghost use Rattle.iscc_text.specs.Letters.{number_after};
+ghost use Rattle.iscc_text.specs.inner.Letters.{number_after};
 
-use crate::gather::{KEPT, gather, in_capitals};
-use crate::print::print_unit;
+use crate::gather::{KEPT, digit, gather, is_whole};
+use crate::print::{LETTERS, SCHEME, print_unit};
 use iscc_code::{Iscc, IsccFault, decode};
 use iscc_header::{Kind, MainType, Unit64};
 
@@ -21,9 +22,10 @@ pub enum TextFault {
     Scheme,
     /// A byte that is no letter of base32 and no hyphen, at this place of the whole text, counted from 0.
     Letter { at: usize },
-    /// The letters are those of no bytes.
+    /// The letters are those of no bytes. The number of letters of bytes, without hyphens, is 0, 2, 4, 5 or 7 modulo 8,
+    /// and the bits behind the last whole byte are 0.
     Bits,
-    /// The bytes spell no ISCC.
+    /// The bytes encode no ISCC.
     Iscc(IsccFault),
 }
 
@@ -60,11 +62,11 @@ fn blank(byte: u8) -> bool
 }
 
 // A letter in either case, or a hyphen.
-#[tactic(auto, unfolding(crate::specs::Texts::is_allowed, crate::specs::Texts::is_letter))]
+#[tactic(auto, unfolding(crate::specs::Texts::is_allowed, crate::specs::Texts::is_letter, crate::specs::Texts::capital))]
 fn allows(byte: u8) -> bool
     ensures { result ≡ is_allowed byte }
 {
-    let capital = in_capitals(byte);
+    let capital = byte.to_ascii_uppercase();
     byte == b'-' || (b'A' <= capital && capital <= b'Z') || (b'2' <= capital && capital <= b'7')
 }
 
@@ -120,22 +122,7 @@ fn scheme_len(core: &[u8]) -> Option<usize>
 fn is_name(name: &[u8]) -> bool
     ensures { IsTrue result ↔ (map capital name.now ≡ codes "ISCC") }
 {
-    if name.len() != 4 {
-        return false;
-    }
-    if in_capitals(name[0]) != b'I' {
-        return false;
-    }
-    if in_capitals(name[1]) != b'S' {
-        return false;
-    }
-    if in_capitals(name[2]) != b'C' {
-        return false;
-    }
-    if in_capitals(name[3]) != b'C' {
-        return false;
-    }
-    true
+    name.eq_ignore_ascii_case(b"iscc")
 }
 
 // The place of the first colon, or the length.
@@ -162,10 +149,7 @@ fn read_letters(letters: &[u8], place: usize) -> Result<Iscc, TextFault>
         return Err(TextFault::Letter { at: place + good });
     }
     let bits = gather(letters);
-    if bits.width >= 5 {
-        return Err(TextFault::Bits);
-    }
-    if bits.pending != 0 {
+    if !is_whole(&bits) {
         return Err(TextFault::Bits);
     }
     match decode(&bits.kept[..bits.count.min(KEPT)]) {
@@ -188,13 +172,14 @@ fn letters_in_front(text: &[u8]) -> usize
     text.len()
 }
 
-/// The unit whose printed text this is, if it is one's: neither small letters nor blanks or hyphens are read.
+/// The unit of 64 bits whose printed text this is, if it is one's: neither small letters nor blanks or hyphens are
+/// read.
 ///
 /// Takes no memory.
 pub fn read_printed(text: &[u8]) -> Option<Unit64>
     ensures found { IfSome result (λ unit. text.now ≡ unit_text unit) }
-    ensures range { IfSome result IsUnit }
-    ensures none { IfNone result ((unit : AUnit) → IsUnit unit → text.now ≡ unit_text unit → ⊥) }
+    ensures range { IfSome result IsUnit64 }
+    ensures none { IfNone result ((unit : AUnit) → IsUnit64 unit → text.now ≡ unit_text unit → ⊥) }
 {
     let unit = candidate(text)?;
     if print_unit(&unit).as_str().as_bytes() == text {
@@ -206,37 +191,33 @@ pub fn read_printed(text: &[u8]) -> Option<Unit64>
 
 // Which unit has this text, if one has it. Whether it has is seen by printing it.
 fn candidate(text: &[u8]) -> Option<Unit64>
-    ensures { (unit : AUnit) → IsUnit unit → text.now ≡ unit_text unit → result ≡ Some unit }
+    ensures { (unit : AUnit) → IsUnit64 unit → text.now ≡ unit_text unit → result ≡ Some unit }
 {
-    if text.len() != 21 {
+    let letters = text.strip_prefix(SCHEME.as_bytes())?;
+    if letters.len() != LETTERS {
         return None;
     }
-    let number = number_of(&text[5..]);
+    let number = number_of(letters);
     unit_of(((number >> 64) % 65536) as u32, (number % (1 << 64)) as u64)
 }
 
 // The unit with this header and body, if there is one.
 fn unit_of(header: u32, body: u64) -> Option<Unit64>
     requires { header < 65536 }
-    ensures { (unit : AUnit) → IsUnit unit → header ≡ (main_of unit.kind * 16 + sub_of unit.kind) * 256 + 1 → body ≡ unit.body → result ≡ Some unit }
+    ensures { (unit : AUnit) → IsUnit64 unit → header ≡ (main_of unit.kind * 16 + sub_of unit.kind) * 256 + 1 → body ≡ unit.body → result ≡ Some unit }
 {
     let main = MainType::of((header / 4096) as u16)?;
     let kind = Kind::of(main, (header / 256 % 16) as u16)?;
     Some(Unit64 { kind, body })
 }
 
-// The number that letters stand for.
+// The number that letters stand for, cut where more come than a number has room for.
 fn number_of(letters: &[u8]) -> u128
     ensures { result ≡ number_after 0 letters.now }
 {
     let mut number = 0;
     for byte in letters {
-        let digit = if *byte < 65 {
-            (*byte + 8) % 32
-        } else {
-            (*byte - 65) % 32
-        };
-        number = number % (1 << 120) * 32 + digit as u128;
+        number = number % (1 << 120) * 32 + digit(*byte) as u128;
     }
     number
 }

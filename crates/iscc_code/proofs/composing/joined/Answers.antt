@@ -1,6 +1,6 @@
 use Rattle.std.proofs.Common.{◌≡◌, true, sym, ◌∙◌, ap, subst}
 use Rattle.iscc_code.specs.Composites.{CodeParts, IsCode, code_units, code_len, is_code_sub}
-use Rattle.iscc_code.specs.Joined.{sub_from}
+use Rattle.iscc_code.specs.inner.Joined.{sub_from}
 use Rattle.iscc_code.proofs.CodeBodies.{same_parts}
 use Rattle.iscc_code.proofs.Composed.{AreFound, code_of_units, found_units, found_sub}
 use Rattle.iscc_code.proofs.composing.joined.Goals as goal
@@ -25,7 +25,7 @@ made c = record {
   sub = c.sub_of_code.result;
 }
 
--- what was made is the code of these units
+-- what was made is the ISCC-CODE of these units
 is_made : (c : goal.After-sub_of_code) → made c ≡ code_of_units c.args.meta.now c.args.semantic.now c.args.content.now c.args.last_data.now c.args.instance.now
 unfolding made code_of_units
 is_made c =

@@ -1,7 +1,7 @@
 use Rattle.std.proofs.Common.{◌++◌, take, length, length-append, sym, ◌∙◌, ap, ap₂, append-nil, arith, subst}
 use Rattle.std.specs.List.{flat_map}
 use Rattle.std.proofs.lemmas.List.{take_all, length-take-le}
-use Rattle.iscc_header.specs.Headers.{Numbers, SpellsHeader}
+use Rattle.iscc_header.specs.Headers.{Numbers, EncodesHeader}
 use Rattle.iscc_code.specs.Composites.{code_body, body_bytes}
 use Rattle.iscc_code.proofs.CodeBodies.{code_sub-small, code_len-small, length-bodies, more_bodies}
 use Rattle.iscc_code.proofs.iscc.code_bytes.Goals as goal
@@ -41,12 +41,12 @@ unfolding code_body
 returns c =
     let units = c.as_slice-unit-items.result.now in
     let code = c.args.code.now in
-    let P : Numbers → Type 0 = λ h. SpellsHeader h c.header_bytes-bytes.result.items in
+    let P : Numbers → Type 0 = λ h. EncodesHeader h c.header_bytes-bytes.result.items in
     record {
       valid = c.sub.ensures.range;
       parts = record {
         front = c.header_bytes-bytes.result.items;
-        spelled = subst P (ap₂ (λ s l. record { main = 5; sub = s; version = 0; len = l }) c.sub.ensures.value c.header_len.ensures.value) c.header_bytes-bytes.ensures.spelled;
+        encoded = subst P (ap₂ (λ s l. record { main = 5; sub = s; version = 0; len = l }) c.sub.ensures.value c.header_len.ensures.value) c.header_bytes-bytes.ensures.encoded;
         whole = c.loop-unit.invariant ∙ ap (λ us. c.header_bytes-bytes.result.items ++ flat_map body_bytes us) (take_all c.loop-unit.unit-index units (omega arith) ∙ c.as_slice-unit-items.ensures.value ∙ c.split.ensures.value);
       };
     }

@@ -28,9 +28,9 @@ loop-i-preserved c =
       All-same IsByte c.push.new.self.items (c.loop-i.bytes.items ++ byte ∷ []) c.push.ensures.items (All-push IsByte c.loop-i.bytes.items byte c.loop-i.invariant.2 (mod-lt (value / 2 ^ w) (lit< tt))),
     )
 
-pub returns-clause-spelled : goal.returns-clause-spelled
+pub returns-clause-encoded : goal.returns-clause-encoded
 unfolding bits_of
-returns-clause-spelled c =
+returns-clause-encoded c =
     let none : 8 * (c.args.bits.count / 2 - c.loop-i.i) ≡ 0 = omega arith in
     sym (append-nil (byte_bits c.loop-i.bytes.items))
     ∙ ap (λ w. byte_bits c.loop-i.bytes.items ++ bits_of w c.args.bits.value) (sym none)

@@ -1,5 +1,5 @@
 use Rattle.std.proofs.Common.{subst}
-use Rattle.iscc_header.specs.Reading.{ReadsHeader}
+use Rattle.iscc_header.specs.inner.Reading.{ReadsHeader}
 use Rattle.iscc_header.proofs.HeaderReading.{header_complete, header_short, header_lacking, header_padding}
 use Rattle.iscc_header.proofs.header.decode_header.Goals as goal
 

@@ -17,7 +17,6 @@ returns-clause-bits c =
     let value = c.args.bits.value in
     let bits = bits_of (4 * count) value in
     let whole : value * 16 % 2 ^ 64 ≡ value * 16 = shl_whole value (4 * count) 4 64 c.requires.fits (omega arith) in
-    let last : value * 16 ≡ value * 2 ^ 4 + 0 = omega arith in
-    ap (bits_of (4 * (count + 1))) (whole ∙ last)
+    ap (bits_of (4 * (count + 1))) (omega (arith, whole))
     ∙ bits_of-append (4 * count) 4 (4 * (count + 1)) value 0 (omega arith) (omega arith)
     ∙ sym (padded_odd bits (λ e. omega (arith, e, length-bits_of (4 * count) value)))

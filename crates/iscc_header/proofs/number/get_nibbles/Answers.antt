@@ -1,5 +1,5 @@
 use Rattle.std.proofs.Common.{subst}
-use Rattle.iscc_header.specs.Reading.{ReadsNumber}
+use Rattle.iscc_header.specs.inner.Reading.{ReadsNumber}
 use Rattle.iscc_header.proofs.NumberReading.{reads_complete, reads_short, reads_none}
 use Rattle.iscc_header.proofs.number.get_nibbles.Goals as goal
 

@@ -1,7 +1,7 @@
 use Rattle.std.proofs.Common.{◌≡◌, ◌+◌, ◌++◌, ◌∙◌, ap, arith}
 use Rattle.iscc_header.specs.Bits.{bits_of}
 use Rattle.iscc_header.specs.Headers.{bits_from}
-use Rattle.iscc_header.proofs.NumberSpellings.{nibbles_1}
+use Rattle.iscc_header.proofs.NumberEncodings.{nibbles_1}
 use Rattle.iscc_header.proofs.NumberReading.{ends_at_end, row_reads, row_from_8, row_from_12, row_from_14}
 use Rattle.iscc_header.proofs.number.read_number.Goals as goal
 
@@ -12,8 +12,8 @@ pub returns-in-0-to-7 : goal.returns-in-0-to-7
 returns-in-0-to-7 c = (
   omega arith,
   record {
-    spellable = omega arith;
-    spelled = c.nibble_at-first.ensures.value ∙ ap (λ bits. bits ++ bits_from c.args.bytes.now (c.args.at + 1)) (nibbles_1 c.nibble_at-first.result (omega arith));
+    encodable = omega arith;
+    encoded = c.nibble_at-first.ensures.value ∙ ap (λ bits. bits ++ bits_from c.args.bytes.now (c.args.at + 1)) (nibbles_1 c.nibble_at-first.result (omega arith));
   },
 )
 

@@ -1,7 +1,7 @@
 use Rattle.std.proofs.Common.{◌≡◌, ◌+◌, ◌++◌, List, ℕ, [], ◌∷◌, take, get_or, sym, ◌∙◌, ap, subst, arith}
 use Rattle.std.proofs.lemmas.List.{take_more}
 use Rattle.iscc_text.specs.Texts.{capitals}
-use Rattle.iscc_text.specs.Gathering.{Gathers, letter_bits}
+use Rattle.iscc_text.specs.inner.Gathering.{Gathers, letter_bits}
 use Rattle.iscc_text.proofs.LetterDigits.{letter_bits-push}
 use Rattle.iscc_text.proofs.GatheredBits.{gathers_nothing}
 use Rattle.iscc_text.proofs.gather.gather.Goals as goal

@@ -1,5 +1,5 @@
 use Rattle.std.proofs.Common.{◌≤◌, take}
-use Rattle.iscc_text.specs.Gathering.{Gathers, letter_bits}
+use Rattle.iscc_text.specs.inner.Gathering.{Gathers, letter_bits}
 use Rattle.iscc_text.proofs.gather.gather.Given as goal
 
 -- the bits of the letters so far

@@ -1,7 +1,7 @@
 use Rattle.std.proofs.Common.{◌≡◌, ◌+◌, ◌-◌, ◌*◌, ◌%◌, ◌^◌, ◌++◌, ℕ, sym, subst, arith}
 use Rattle.std.proofs.lemmas.Nat.{one_shl}
 use Rattle.iscc_header.specs.Bits.{bits_of}
-use Rattle.iscc_text.specs.Gathering.{Gathers}
+use Rattle.iscc_text.specs.inner.Gathering.{Gathers}
 use Rattle.iscc_text.proofs.GatheredBits.{gathers_few, gathers_byte, byte_fits}
 use Rattle.iscc_text.proofs.gather.push.Goals as goal
 

@@ -1,5 +1,5 @@
 use Rattle.std.proofs.Common.{Ok, Err, subst}
-use Rattle.iscc_text.specs.Texts.{ReadsText}
+use Rattle.iscc_text.specs.inner.Reading.{ReadsText}
 use Rattle.iscc_text.proofs.OneText.{one_reading}
 use Rattle.iscc_text.proofs.read.read_iscc.Goals as goal
 

@@ -1,25 +1,20 @@
-use Rattle.std.proofs.Common.{◌≡◌, ◌≤◌, ap, sym, ◌∙◌, subst, arith}
+use Rattle.std.proofs.Common.{◌≡◌, ap, sym, ◌∙◌, subst, lit<}
 use Rattle.std.specs.Prelude.{All}
-use Rattle.iscc_header.specs.Units.{IsUnit}
+use Rattle.iscc_header.specs.Unit64s.{IsUnit64}
+use Rattle.iscc_header.proofs.KindFacts.{contains_kind}
 use Rattle.iscc_code.specs.Composites.{CodeParts, code_units}
-use Rattle.iscc_code.proofs.CodeBodies.{code_sub-small, units_joined}
-use Rattle.iscc_code.proofs.CodeUnits.{code_units-valid}
+use Rattle.iscc_code.proofs.CodeBodies.{units_joined}
+use Rattle.iscc_code.proofs.CodeUnits.{code_units-valid, semantic_kind, content_kind}
 use Rattle.iscc_code.proofs.code.Code.split.Goals as goal
 
-pub overflow_cast-sub : goal.overflow_cast-sub
-overflow_cast-sub c = (let small : c.self.inside.sub ≤ 6 = code_sub-small _ _ c.self.invariant.sub in omega arith)
-
-pub overflow_add-sub : goal.overflow_add-sub
-overflow_add-sub c = (let small : c.self.inside.sub ≤ 6 = code_sub-small _ _ c.self.invariant.sub in omega arith)
-
 pub push_if-requires-2-clause-kind : goal.push_if-requires-2-clause-kind
-push_if-requires-2-clause-kind c = (let small : c.self.inside.sub ≤ 6 = code_sub-small _ _ c.self.invariant.sub in omega arith)
-
-pub overflow_add-sub-2 : goal.overflow_add-sub-2
-overflow_add-sub-2 c = (let small : c.self.inside.sub ≤ 6 = code_sub-small _ _ c.self.invariant.sub in omega arith)
+push_if-requires-2-clause-kind c = semantic_kind _ c.self.invariant
 
 pub push_if-requires-3-clause-kind : goal.push_if-requires-3-clause-kind
-push_if-requires-3-clause-kind c = (let small : c.self.inside.sub ≤ 6 = code_sub-small _ _ c.self.invariant.sub in omega arith)
+push_if-requires-3-clause-kind c = content_kind _ c.self.invariant
+
+pub push_if-requires-4-clause-kind : goal.push_if-requires-4-clause-kind
+push_if-requires-4-clause-kind c = contains_kind 11 (lit< tt)
 
 -- the fields as the value that contracts see
 parts : goal.After-push_if-5 → CodeParts
@@ -40,4 +35,4 @@ returns-clause-value c = units_are c ∙ ap code_units c.self.view_is
 
 pub returns-clause-units : goal.returns-clause-units
 unfolding parts
-returns-clause-units c = subst (All IsUnit) (sym (units_are c)) (code_units-valid (parts c) c.self.invariant)
+returns-clause-units c = subst (All IsUnit64) (sym (units_are c)) (code_units-valid (parts c) c.self.invariant)

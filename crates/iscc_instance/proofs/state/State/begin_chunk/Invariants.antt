@@ -1,5 +1,5 @@
 use Rattle.std.proofs.Common.{◌≡◌, ℕ, ◌+◌, ◌*◌, List, drop}
-use Rattle.iscc_instance.specs.Subtrees.{Stands}
+use Rattle.iscc_instance.specs.inner.Subtrees.{Stands}
 use Rattle.iscc_instance.proofs.state.State.begin_chunk.Given as goal
 
 abbrev pub invariant-chunks : goal.invariant-chunks

@@ -7,7 +7,7 @@ use Rattle.iscc_instance.proofs.subtrees.Subtrees.push.Goals as goal
 pub returns-then-count-level-eq0-clause-stands : goal.returns-then-count-level-eq0-clause-stands
 returns-then-count-level-eq0-clause-stands c = λ bytes stands within chunk.
     let i = c.levels.invariant in
-    Stands-next c.args.self.now _ bytes c.levels.value c.levels.level stands i.low c.if-count-level-eq0.true (omega arith) within
+    Stands-next c.args.self.now _ bytes c.levels.value c.levels.level stands i.low (omega arith) (omega arith) within
     (i.value bytes stands within chunk) (ap (λ (v : List (List ℕ)). slice_set v c.levels.level c.levels.value) i.kept) i.counted
 
 pub levels-preserved : goal.levels-preserved

@@ -1,5 +1,5 @@
 use Rattle.std.proofs.Common.{◌≡◌, ℕ, ◌+◌, ◌*◌, ◌≤◌, List, length}
-use Rattle.iscc_instance.specs.Subtrees.{Stands, first_above, full_value}
+use Rattle.iscc_instance.specs.inner.Subtrees.{Stands, first_above, full_value}
 use Rattle.iscc_instance.proofs.Bits.{LowBitsSet}
 use Rattle.iscc_instance.proofs.subtrees.Subtrees.push.Given as goal
 

@@ -1,8 +1,8 @@
-use Rattle.std.proofs.Common.{◌≡◌, ℕ, ◌*◌, drop, sym, arith, ap, ◌∙◌}
+use Rattle.std.proofs.Common.{◌≡◌, ℕ, ◌*◌, ◌/◌, ◌%◌, ◌^◌, drop, sym, arith, ap, ◌∙◌}
 use Rattle.blake3_core.specs.Compression.{iv}
 use Rattle.blake3_core.specs.Tree.{chunk_output, parent_output, subtree}
 use Rattle.blake3_core.proofs.Trees.{tree-subtree}
-use Rattle.iscc_instance.specs.Subtrees.{first_above}
+use Rattle.iscc_instance.specs.inner.Subtrees.{first_above}
 use Rattle.iscc_instance.proofs.SubtreeLemmas.{climb-clear, climb-set}
 use Rattle.iscc_instance.proofs.subtrees.Subtrees.root.Goals as goal
 use Rattle.iscc_instance.proofs.subtrees.Subtrees.root.Goals.{then-self-level-eq1, else-self-level-eq1}
@@ -21,7 +21,7 @@ levels-preserved c = λ bytes stands last ends more.
     let here = c.levels.invariant bytes stands last ends more in
     elim c.if-self-level-eq1.branch [
       | then-self-level-eq1 w ↦
-          let set = w.if-self-level-eq1.true in
+          let set : n / 2 ^ level % 2 ≡ 1 = omega arith in
           climb-set bytes n level c.levels.output ends here _ _ set more (stands.values level c.levels-test.true set)
           (w.output-is ∙ w.parent_output-output.ensures ∙ ap (parent_output iv 0 _) w.value.ensures)
       | else-self-level-eq1 w ↦ w.output-is ∙ climb-clear bytes n level c.levels.output ends here (omega arith)

@@ -1,7 +1,7 @@
 use Rattle.std.proofs.Common.{◌≡◌, ℕ, ◌+◌, ◌*◌, ◌<◌, ◌≤◌, List, length, drop}
 use Rattle.blake3_core.specs.Compression.{iv}
 use Rattle.blake3_core.specs.Tree.{chunk_output, subtree}
-use Rattle.iscc_instance.specs.Subtrees.{Stands, first_above}
+use Rattle.iscc_instance.specs.inner.Subtrees.{Stands, first_above}
 use Rattle.iscc_instance.proofs.subtrees.Subtrees.root.Given as goal
 
 abbrev pub invariant-levels : goal.invariant-levels

@@ -1,0 +1,3 @@
+-- What only proofs and private contracts use: no promise needs these.
+pub mod State
+pub mod Subtrees
