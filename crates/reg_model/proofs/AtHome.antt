@@ -1,20 +1,17 @@
 -- In the accounts of sessions each row stands at the place of its session and number, and no two are the same in both.
 use Rattle.std.proofs.Common.{◌≡◌, ℕ, zero, suc, ◌+◌, ◌-◌, ◌<◌, ◌≤◌, Bool, false, List, [], ◌∷◌, ◌++◌, Option, Some, None, refl, sym, ◌∙◌, ap, arith}
 use Rattle.std.specs.Prelude.{IfSome, slice_get, if◌then◌else◌}
-use Rattle.std.specs.List.{AllByRecursion, IsDistinct, flat_map}
+use Rattle.std.specs.List.{AllByRecursion, IsDistinct}
 use Rattle.std.specs.Option.{option_and_then}
 use Rattle.std.specs.Ordering.{is_eq, eq_by_cmp, nat_cmp, ordering_then}
 use Rattle.std.specs.Cmp.{nat_cmp_is}
 use Rattle.std.specs.declared.cmp.Ordering.{Ordering}
 use Rattle.std.specs.declared.cmp.Ordering.TheVariants.{Less, Equal, Greater}
 use Rattle.reg_model.specs.declared.reply.Row.{Row}
-use Rattle.reg_model.specs.Rows.{is_accepted, row_cmp}
+use Rattle.reg_model.specs.Rows.{is_accepted, row_cmp, all_rows}
 use Rattle.reg_model.specs.Merge.{row_at, AreAccounts}
-use Rattle.reg_model.specs.MergeKeys.{row_place}
+use Rattle.reg_model.specs.inner.MergeKeys.{row_place}
 use Rattle.reg_model.proofs.RowSteps.{IfSome-weaker}
-
-abbrev pub rows_of : List (List Row) → List Row
-rows_of accounts = flat_map (λ account. account) accounts
 
 -- ---- what holds of each element
 
@@ -110,9 +107,9 @@ stands s n (row ∷ rows) h =
 abbrev IsHome : ℕ → List (List Row) → Row → Type 0
 IsHome s accounts row = (s ≤ row.session) × (option_and_then (λ rows. slice_get rows row.number) (slice_get accounts (row.session - s)) ≡ Some row)
 
-home : (s : ℕ) (accounts : List (List Row)) → AccountsFrom s accounts → AllByRecursion (IsHome s accounts) (rows_of accounts)
+home : (s : ℕ) (accounts : List (List Row)) → AccountsFrom s accounts → AllByRecursion (IsHome s accounts) (all_rows accounts)
 home s [] h = tt
-home s (account ∷ accounts) h = each_append (IsHome s (account ∷ accounts)) account (rows_of accounts)
+home s (account ∷ accounts) h = each_append (IsHome s (account ∷ accounts)) account (all_rows accounts)
     (each_weaker (StandsFrom s 0 account) (IsHome s (account ∷ accounts))
     (λ r p. let first : r.session - s ≡ 0 = omega (arith, p.0) in let number : r.number ≡ r.number - 0 = omega arith in
     (omega (arith, p.0), ap (λ i. option_and_then (λ rows. slice_get rows r.number) (slice_get (account ∷ accounts) i)) first ∙ ap (slice_get account) number ∙ p.2))
@@ -120,15 +117,15 @@ home s (account ∷ accounts) h = each_append (IsHome s (account ∷ accounts)) 
     (each_weaker (IsHome (suc s) accounts) (IsHome s (account ∷ accounts))
     (λ r p. let next : r.session - s ≡ suc (r.session - suc s) = omega (arith, p.0) in
     (omega (arith, p.0), ap (λ i. option_and_then (λ rows. slice_get rows r.number) (slice_get (account ∷ accounts) i)) next ∙ p.1))
-    (rows_of accounts) (home (suc s) accounts h.1))
+    (all_rows accounts) (home (suc s) accounts h.1))
 
 abbrev pub IsFound : List (List Row) → Row → Type 0
 IsFound accounts row = row_at accounts (row_place row) ≡ Some row
 
-pub all_found : (accounts : List (List Row)) → AreAccounts accounts → AllByRecursion (IsFound accounts) (rows_of accounts)
+pub all_found : (accounts : List (List Row)) → AreAccounts accounts → AllByRecursion (IsFound accounts) (all_rows accounts)
 all_found accounts are = each_weaker (IsHome 0 accounts) (IsFound accounts)
     (λ r p. let session : r.session ≡ r.session - 0 = omega arith in ap (λ i. option_and_then (λ rows. slice_get rows r.number) (slice_get accounts i)) session ∙ p.1)
-    (rows_of accounts) (home 0 accounts (by_recursion accounts are))
+    (all_rows accounts) (home 0 accounts (by_recursion accounts are))
 
 -- ---- no two rows have the same session and number
 
@@ -178,13 +175,13 @@ numbered_apart s n (row ∷ rows) h = (
   numbered_apart s (suc n) rows h.2,
 )
 
-accounts_apart : (s : ℕ) (accounts : List (List Row)) → AccountsFrom s accounts → IsDistinct same_rank (rows_of accounts)
+accounts_apart : (s : ℕ) (accounts : List (List Row)) → AccountsFrom s accounts → IsDistinct same_rank (all_rows accounts)
 unfolding IsDistinct
 accounts_apart s [] h = tt
-accounts_apart s (account ∷ accounts) h = distinct_append same_rank account (rows_of accounts) (numbered_apart s 0 account h.0) (accounts_apart (suc s) accounts h.1)
-    (each_weaker (StandsFrom s 0 account) (λ a. AllByRecursion (λ b. same_rank a b ≡ false) (rows_of accounts))
-    (λ a p. each_weaker (IsHome (suc s) accounts) (λ b. same_rank a b ≡ false) (λ b q. lower_session a b (omega (arith, p.0, q.0))) (rows_of accounts) (home (suc s) accounts h.1))
+accounts_apart s (account ∷ accounts) h = distinct_append same_rank account (all_rows accounts) (numbered_apart s 0 account h.0) (accounts_apart (suc s) accounts h.1)
+    (each_weaker (StandsFrom s 0 account) (λ a. AllByRecursion (λ b. same_rank a b ≡ false) (all_rows accounts))
+    (λ a p. each_weaker (IsHome (suc s) accounts) (λ b. same_rank a b ≡ false) (λ b q. lower_session a b (omega (arith, p.0, q.0))) (all_rows accounts) (home (suc s) accounts h.1))
     account (stands s 0 account h.0))
 
-pub all_apart : (accounts : List (List Row)) → AreAccounts accounts → IsDistinct same_rank (rows_of accounts)
+pub all_apart : (accounts : List (List Row)) → AreAccounts accounts → IsDistinct same_rank (all_rows accounts)
 all_apart accounts are = accounts_apart 0 accounts (by_recursion accounts are)

@@ -1,6 +1,7 @@
 -- The rows of a lawful round are in the order of the merge; those of one session are an account of their own.
-use Rattle.std.proofs.Common.{◌≡◌, ℕ, zero, suc, ◌+◌, ◌-◌, Bool, true, false, cond, List, [], ◌∷◌, ◌++◌, length, drop, Option, Some, None, refl, sym, ◌∙◌, ap, subst, append_assoc, append-nil, arith}
-use Rattle.std.specs.Prelude.{IfSome, slice_get, ◌==◌}
+use Rattle.std.proofs.Common.{◌≡◌, ℕ, zero, suc, ◌+◌, ◌-◌, ◌<◌, ◌≤◌, Bool, true, false, cond, List, [], ◌∷◌, ◌++◌, length, drop, Option, Some, None, refl, sym, ◌∙◌, ap, subst, append_assoc, append-nil, arith, length-append}
+use Rattle.std.specs.Prelude.{IfSome, slice_get, is_some, ◌==◌, AllPairs}
+use Rattle.std.specs.Option.{option_to_list}
 use Rattle.std.specs.List.{AllByRecursion}
 use Rattle.std.specs.List.Sorted.{IsStrictlySortedBy}
 use Rattle.std.specs.Cmp.{IsTotalOrder}
@@ -8,15 +9,19 @@ use Rattle.std.specs.declared.cmp.Ordering.{Ordering}
 use Rattle.std.specs.declared.cmp.Ordering.TheVariants.{Less}
 use Rattle.std.proofs.lemmas.Bool.Decides.{nat_tests}
 use Rattle.std.proofs.lemmas.List.{length_push}
-use Rattle.std.proofs.lemmas.List.Elements.{filter-append}
+use Rattle.std.proofs.lemmas.List.Elements.{filter-append, All-from_recursion}
+use Rattle.std.proofs.lemmas.List.Kept.{AllPairs-cons, AllPairs-filter}
 use Rattle.std.proofs.lemmas.List.Sums.{length-filter, count_by-le-length}
 use Rattle.std.proofs.lemmas.List.Sorted.{IsPermutation-refl}
 use Rattle.std.specs.List.Sorted.{IsPermutation}
+use Rattle.reg_model.specs.declared.update.Update.{Update}
 use Rattle.reg_model.specs.declared.reply.Row.{Row}
 use Rattle.reg_model.specs.Limits.{Limits}
 use Rattle.reg_model.specs.Opening.{Opening}
-use Rattle.reg_model.specs.Rows.{row_cmp, session_rows, MayFollow, EachAfter, IsLawful, IsMerge}
+use Rattle.reg_model.specs.Rows.{update_of, is_accepted, log_of, row_cmp, session_rows, IsSeenBy, MayFollow, EachAfter, IsLawful, IsMerge}
 use Rattle.reg_model.specs.Merge.{row_at, AreAccounts}
+use Rattle.reg_model.proofs.AtHome.{each_weaker}
+use Rattle.reg_model.proofs.RowSteps.{log_of-push}
 use Rattle.reg_model.proofs.MergeSteps.{row_total}
 
 -- ---- the order
@@ -53,6 +58,50 @@ sorted_from limits opening before (row ∷ rows) up each =
 pub lawful_sorted : (limits : Limits) (opening : Opening) (rows : List Row) → IsLawful limits opening rows → IsStrictlySortedBy row_cmp rows
 unfolding IsStrictlySortedBy
 lawful_sorted limits opening rows lawful = sorted_from limits opening [] rows tt lawful
+
+-- ---- what a row has seen
+
+-- the row isn't below this point, and is above it where it is accepted
+record IsFloor (low : ℕ) (row : Row) : Type 0 where
+  point : low ≤ row.point
+  accepted : is_accepted row ≡ true → low < row.point
+
+one_more : (o : Option Update) → is_some o ≡ true → length (option_to_list o) ≡ 1
+one_more None is = absurd (cc)
+one_more (Some u) is = refl
+
+-- the point of the next row
+pub next_point : (limits : Limits) (opening : Opening) (before : List Row) (row : Row) → MayFollow limits opening before row
+    → row.point ≡ opening.base + length (log_of before) + length (option_to_list (update_of row.call row.reply))
+next_point limits opening before row follows =
+    omega (arith, follows.point, ap length (log_of-push before row), length-append (log_of before) (option_to_list (update_of row.call row.reply)))
+
+floors : (limits : Limits) (opening : Opening) (before rows : List Row) → EachAfter (MayFollow limits opening) before rows
+    → AllByRecursion (IsFloor (opening.base + length (log_of before))) rows
+floors limits opening before [] each = tt
+floors limits opening before (row ∷ rows) each =
+    let follows : MayFollow limits opening before row = each.0 in
+    let at = next_point limits opening before row follows in
+    let longer : opening.base + length (log_of before) ≤ opening.base + length (log_of (before ++ row ∷ [])) = omega (arith, ap length (log_of-push before row), length-append (log_of before) (option_to_list (update_of row.call row.reply))) in (
+      record { point = omega (arith, at); accepted = λ is. omega (arith, at, one_more (update_of row.call row.reply) is) },
+      each_weaker (IsFloor (opening.base + length (log_of (before ++ row ∷ [])))) (IsFloor (opening.base + length (log_of before)))
+          (λ r f. record { point = omega (arith, f.point, longer); accepted = λ is. omega (arith, f.accepted is, longer) })
+          rows (floors limits opening (before ++ row ∷ []) rows each.1),
+    )
+
+seen_from : (limits : Limits) (opening : Opening) (before rows : List Row) → EachAfter (MayFollow limits opening) before rows → AllPairs IsSeenBy rows
+seen_from limits opening before [] each = λ i j d low high. absurd (omega (arith, high))
+seen_from limits opening before (row ∷ rows) each =
+    let follows : MayFollow limits opening before row = each.0 in
+    AllPairs-cons IsSeenBy row rows
+    (All-from_recursion (IsSeenBy row) rows (each_weaker (IsFloor (opening.base + length (log_of (before ++ row ∷ [])))) (IsSeenBy row)
+    (λ r f. record { point = omega (arith, f.point, follows.point); accepted = λ is. omega (arith, f.accepted is, follows.point) })
+    rows (floors limits opening (before ++ row ∷ []) rows each.1)))
+    (seen_from limits opening (before ++ row ∷ []) rows each.1)
+
+-- a session has seen its earlier rows
+pub lawful_seen : (limits : Limits) (opening : Opening) (rows : List Row) → IsLawful limits opening rows → (session : ℕ) → AllPairs IsSeenBy (session_rows session rows)
+lawful_seen limits opening rows lawful session = AllPairs-filter IsSeenBy (λ (r : Row). r.session == session) rows (seen_from limits opening [] rows lawful)
 
 -- ---- one session
 

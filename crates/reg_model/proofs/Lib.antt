@@ -4,10 +4,15 @@ pub mod PlainSteps
 pub mod WorkedRows
 pub mod WorkedRounds
 pub mod RowSteps
-pub mod Answered
+pub mod Standing
 pub mod SortedHits
 pub mod AtHome
 pub mod MergeSteps
 pub mod WorkedMerge
 pub mod OneMerge
 pub mod LawfulOrder
+pub mod SomeMerge
+pub mod SessionAccounts
+pub mod Merged
+pub mod WorkedAccounts
+pub mod LoneRounds

@@ -13,9 +13,10 @@ use Rattle.reg_model.specs.declared.update.Update.{Update}
 use Rattle.reg_model.specs.declared.update.Update.TheVariants.{Decl, Wd}
 use Rattle.reg_model.specs.declared.update.Declared.{Declared}
 use Rattle.reg_model.specs.Limits.{Limits, IsInRange}
-use Rattle.reg_model.specs.Opening.{Opening, IsOpening, IsRising}
-use Rattle.reg_model.specs.Live.{declared_from, declared, withdraws, is_withdrawn, live, is_declaration, withdrawals}
-use Rattle.reg_model.specs.Registry.{Registry, IsCurrent}
+use Rattle.reg_model.specs.Opening.{Opening, IsOpening, IsRising, opening_of}
+use Rattle.reg_model.specs.Live.{declared_from, declared, withdraws, is_withdrawn, live, is_declaration, declarations, withdrawals}
+use Rattle.reg_model.specs.Registry.{Registry}
+use Rattle.reg_model.specs.inner.Current.{IsCurrent}
 use Rattle.reg_model.proofs.Rising.{Within, live_within, live_rising, live_below, has_id, without, IsAt, remove-at, at_inside, at_below}
 
 -- every element passes
@@ -65,41 +66,6 @@ live-declare opening log unit below =
     ∙ filter-append keeps (declared opening log) (new ∷ [])
     ∙ ap (λ b. live opening log ++ cond b (new ∷ []) []) fresh
 
--- a registry as it starts
-pub current_start : (limits : Limits) (opening : Opening) → IsInRange limits → IsOpening opening → length opening.list ≤ limits.entries → opening.base + limits.log ≤ 2 ^ 34
-    → IsCurrent (record { limits = limits; opening = opening; log = [] }) opening.list 0
-current_start limits opening range opens room ids = record {
-  limits = range;
-  opening = opens;
-  ids = ids;
-  within = omega arith;
-  room = room;
-  kept = sym (live-start opening);
-  counted = refl;
-  below = λ id h. absurd (true≢false (sym h));
-  balance = refl;
-}
-
--- a declaration is no withdrawal
-withdrawals-declare : (log : List Update) (unit : Unit64) → withdrawals (log ++ Decl unit ∷ []) ≡ withdrawals log
-withdrawals-declare log unit = omega (arith, sum_by_push (λ u. cond (not (is_declaration u)) 1 0) log (Decl unit))
-
--- a registry after a declaration
-pub current_declare : (limits : Limits) (opening : Opening) (log : List Update) (list : List Declared) (withdrawn : ℕ) (unit : Unit64)
-    → IsCurrent (record { limits = limits; opening = opening; log = log }) list withdrawn → length log < limits.log → length list < limits.entries
-    → IsCurrent (record { limits = limits; opening = opening; log = log ++ Decl unit ∷ [] }) (list ++ declaration (opening.base + length log) unit ∷ []) withdrawn
-current_declare limits opening log list withdrawn unit current log_room room = record {
-  limits = current.limits;
-  opening = current.opening;
-  ids = current.ids;
-  within = omega (arith, length_push log (Decl unit));
-  room = omega (arith, length_push list (declaration (opening.base + length log) unit));
-  kept = ap (λ ds. ds ++ declaration (opening.base + length log) unit ∷ []) current.kept ∙ sym (live-declare opening log unit current.below);
-  counted = current.counted ∙ sym (withdrawals-declare log unit);
-  below = λ id h. let earlier : is_withdrawn log id ≡ true = sym (is_withdrawn-declare log unit id) ∙ h in omega (arith, current.below id earlier, length_push log (Decl unit));
-  balance = omega (arith, current.balance, length_push list (declaration (opening.base + length log) unit), withdrawals-declare log unit, sum_by_push (λ u. cond (is_declaration u) 1 0) log (Decl unit));
-}
-
 -- ---- a withdrawal
 
 declared_from-withdraw : (id : ℕ) (log : List Update) (other : ℕ) → declared_from id (log ++ Wd other ∷ []) ≡ declared_from id log
@@ -134,6 +100,86 @@ live-withdraw opening log id =
     turned : (m n : ℕ) → (m == n) ≡ (n == m)
     turned m n = grind (arith, nat_tests)
 
+-- ---- the counts of a log
+
+-- each withdrawal of the log ends one declaration that was live
+pub record IsBalanced (opening : Opening) (log : List Update) : Type 0 where
+  -- a withdrawn id is one that was given
+  pub below : (id : ℕ) → is_withdrawn log id ≡ true → id < opening.base + length log
+  pub balance : length (live opening log) + withdrawals log ≡ length opening.list + declarations log
+
+pub balanced_start : (opening : Opening) → IsBalanced opening []
+balanced_start opening = record {
+  below = λ id h. absurd (true≢false (sym h));
+  balance = omega (arith, ap length (live-start opening));
+}
+
+-- a declaration is no withdrawal
+withdrawals-declare : (log : List Update) (unit : Unit64) → withdrawals (log ++ Decl unit ∷ []) ≡ withdrawals log
+withdrawals-declare log unit = omega (arith, sum_by_push (λ u. cond (not (is_declaration u)) 1 0) log (Decl unit))
+
+pub balanced_declare : (opening : Opening) (log : List Update) (unit : Unit64) → IsBalanced opening log → IsBalanced opening (log ++ Decl unit ∷ [])
+balanced_declare opening log unit h = record {
+  below = λ id is. let earlier : is_withdrawn log id ≡ true = sym (is_withdrawn-declare log unit id) ∙ is in omega (arith, h.below id earlier, length_push log (Decl unit));
+  balance = omega (arith, h.balance, ap length (live-declare opening log unit h.below), length_push (live opening log) (declaration (opening.base + length log) unit), withdrawals-declare log unit, sum_by_push (λ u. cond (is_declaration u) 1 0) log (Decl unit));
+}
+
+pub balanced_withdraw : (opening : Opening) (log : List Update) (id place : ℕ) → IsOpening opening → IsAt id place (live opening log) → IsBalanced opening log
+    → IsBalanced opening (log ++ Wd id ∷ [])
+balanced_withdraw opening log id place opens at h =
+    let list = live opening log in
+    let within = live_within opening log opens in
+    let given : id < opening.base + length log = at_below id place 0 (opening.base + length log) list within at in
+    let left : remove list place ≡ live opening (log ++ Wd id ∷ []) = remove-at id place 0 (opening.base + length log) list within at ∙ sym (live-withdraw opening log id) in
+    record {
+      below = λ other is. grind (arith, nat_tests, length_push log (Wd id), given, h.below other, or_cases (is_withdrawn log other) (id == other) (sym (is_withdrawn-withdraw log id other) ∙ is));
+      balance = omega (arith, h.balance, ap length left, length-remove list place (at_inside id place list at), sum_by_push (λ u. cond (not (is_declaration u)) 1 0) log (Wd id), sum_by_push (λ u. cond (is_declaration u) 1 0) log (Wd id));
+    }
+  where
+    or_cases : (a b : Bool) → (a || b) ≡ true → (a ≡ true) ⊎ (b ≡ true)
+    or_cases true b is = inl refl
+    or_cases false b is = inr is
+
+-- ---- a registry between two calls
+
+-- a registry as it starts
+pub current_start : (limits : Limits) (opening : Opening) → IsInRange limits → IsOpening opening → length opening.list ≤ limits.entries → opening.base + limits.log ≤ 2 ^ 34
+    → IsCurrent (record { limits = limits; opening = opening; log = [] }) opening.list 0
+current_start limits opening range opens room ids = record {
+  limits = range;
+  opening = opens;
+  ids = ids;
+  within = omega arith;
+  room = room;
+  kept = sym (live-start opening);
+  counted = refl;
+  below = λ id h. absurd (true≢false (sym h));
+  balance = refl;
+}
+
+balanced : (limits : Limits) (opening : Opening) (log : List Update) (list : List Declared) (withdrawn : ℕ)
+    → IsCurrent (record { limits = limits; opening = opening; log = log }) list withdrawn → IsBalanced opening log
+balanced limits opening log list withdrawn current = record { below = current.below; balance = omega (arith, current.balance, ap length current.kept) }
+
+-- a registry after a declaration
+pub current_declare : (limits : Limits) (opening : Opening) (log : List Update) (list : List Declared) (withdrawn : ℕ) (unit : Unit64)
+    → IsCurrent (record { limits = limits; opening = opening; log = log }) list withdrawn → length log < limits.log → length list < limits.entries
+    → IsCurrent (record { limits = limits; opening = opening; log = log ++ Decl unit ∷ [] }) (list ++ declaration (opening.base + length log) unit ∷ []) withdrawn
+current_declare limits opening log list withdrawn unit current log_room room =
+    let next = balanced_declare opening log unit (balanced limits opening log list withdrawn current) in
+    let new : list ++ declaration (opening.base + length log) unit ∷ [] ≡ live opening (log ++ Decl unit ∷ []) = ap (λ ds. ds ++ declaration (opening.base + length log) unit ∷ []) current.kept ∙ sym (live-declare opening log unit current.below) in
+    record {
+      limits = current.limits;
+      opening = current.opening;
+      ids = current.ids;
+      within = omega (arith, length_push log (Decl unit));
+      room = omega (arith, length_push list (declaration (opening.base + length log) unit));
+      kept = new;
+      counted = current.counted ∙ sym (withdrawals-declare log unit);
+      below = next.below;
+      balance = omega (arith, next.balance, ap length new);
+    }
+
 -- the current list is by rising id
 pub current_rising : (r : Registry) (list : List Declared) (withdrawn : ℕ) → IsCurrent r list withdrawn → IsRising list
 current_rising r list withdrawn current = subst IsRising (sym current.kept) (live_rising r.opening r.log current.opening)
@@ -148,27 +194,22 @@ pub current_withdraw : (limits : Limits) (opening : Opening) (log : List Update)
 current_withdraw limits opening log list withdrawn id place current log_room at =
     let before : Registry = record { limits = limits; opening = opening; log = log } in
     let within = current_within before list withdrawn current in
-    let shorter = length-remove list place (at_inside id place list at) in
-    let given : id < opening.base + length log = at_below id place 0 (opening.base + length log) list within at in
-    let one_more : withdrawals (log ++ Wd id ∷ []) ≡ withdrawals log + 1 = omega (arith, sum_by_push (λ u. cond (not (is_declaration u)) 1 0) log (Wd id)) in
+    let next = balanced_withdraw opening log id place current.opening (subst (IsAt id place) current.kept at) (balanced limits opening log list withdrawn current) in
+    let left : remove list place ≡ live opening (log ++ Wd id ∷ []) = remove-at id place 0 (opening.base + length log) list within at ∙ ap (without id) current.kept ∙ sym (live-withdraw opening log id) in
     record {
       limits = current.limits;
       opening = current.opening;
       ids = current.ids;
       within = omega (arith, length_push log (Wd id));
-      room = omega (arith, shorter, current.room);
-      kept = remove-at id place 0 (opening.base + length log) list within at ∙ ap (without id) current.kept ∙ sym (live-withdraw opening log id);
-      counted = omega (arith, current.counted, one_more);
-      below = λ other h. grind (arith, nat_tests, length_push log (Wd id), given, current.below other, or_cases (is_withdrawn log other) (id == other) (sym (is_withdrawn-withdraw log id other) ∙ h));
-      balance = omega (arith, current.balance, shorter, one_more, sum_by_push (λ u. cond (is_declaration u) 1 0) log (Wd id));
+      room = omega (arith, length-remove list place (at_inside id place list at), current.room);
+      kept = left;
+      counted = omega (arith, current.counted, sum_by_push (λ u. cond (not (is_declaration u)) 1 0) log (Wd id));
+      below = next.below;
+      balance = omega (arith, next.balance, ap length left);
     }
-  where
-    or_cases : (a b : Bool) → (a || b) ≡ true → (a ≡ true) ⊎ (b ≡ true)
-    or_cases true b h = inl refl
-    or_cases false b h = inr h
 
 -- what the next round begins with
-pub current_opening : (r : Registry) (list : List Declared) (withdrawn point : ℕ) → IsCurrent r list withdrawn → point ≡ r.opening.base + length r.log → IsOpening (record { base = point; list = list })
+pub current_opening : (r : Registry) (list : List Declared) (withdrawn point : ℕ) → IsCurrent r list withdrawn → point ≡ r.opening.base + length r.log → IsOpening (opening_of point list)
 current_opening r list withdrawn point current here = record {
   base = omega (arith, here, current.ids, current.within);
   rising = current_rising r list withdrawn current;

@@ -14,10 +14,10 @@ use Rattle.std.proofs.lemmas.List.Sorted.{IsPermutation-map, IsPermutation-refl,
 use Rattle.std.proofs.lemmas.Map.Keys.{IsDistinct-IsPermutation}
 use Rattle.reg_model.specs.declared.reply.Row.{Row}
 use Rattle.reg_model.specs.declared.merging.Key.{Key}
-use Rattle.reg_model.specs.Rows.{is_accepted, row_cmp, IsMerge}
+use Rattle.reg_model.specs.Rows.{is_accepted, row_cmp, IsMerge, all_rows}
 use Rattle.reg_model.specs.Merge.{row_at, AreAccounts, IsMergeOrder}
-use Rattle.reg_model.specs.MergeKeys.{row_place, row_key, key_place}
-use Rattle.reg_model.proofs.AtHome.{rows_of, each_weaker, IsFound, all_found, same_rank, all_apart}
+use Rattle.reg_model.specs.inner.MergeKeys.{row_place, row_key, key_place}
+use Rattle.reg_model.proofs.AtHome.{each_weaker, IsFound, all_found, same_rank, all_apart}
 use Rattle.reg_model.proofs.SortedHits.{sorted_tail}
 
 -- ---- the order of keys is that of the rows
@@ -130,18 +130,23 @@ all_filled : (accounts : List (List Row)) (rows : List Row) → AllByRecursion (
 all_filled accounts [] h = tt
 all_filled accounts (row ∷ rows) h = (some_is (row_at accounts (row_place row)) row h.0, all_filled accounts rows h.1)
 
-order_of_rows : (accounts : List (List Row)) (rows : List Row) → AreAccounts accounts → IsPermutation (rows_of accounts) rows → IsSorted row_cmp rows → IsMergeOrder accounts (map key_place (map row_key rows))
+-- the rows of accounts in their order are the merge
+pub sorted_merge : (accounts : List (List Row)) (rows : List Row) → AreAccounts accounts → IsPermutation (all_rows accounts) rows → IsSorted row_cmp rows → IsMerge accounts rows
+sorted_merge accounts rows are moved up =
+    let apart : IsDistinct same_rank rows = IsDistinct-IsPermutation same_rank (eq_by_cmp_equiv row_total).symm (all_rows accounts) rows moved (all_apart accounts are) in
+    record { exactly = moved; order = strict row_cmp row_total rows up apart }
+
+order_of_rows : (accounts : List (List Row)) (rows : List Row) → AreAccounts accounts → IsPermutation (all_rows accounts) rows → IsSorted row_cmp rows → IsMergeOrder accounts (map key_place (map row_key rows))
 order_of_rows accounts rows are moved up =
-    let found : AllByRecursion (IsFound accounts) rows = recursion_from_All (IsFound accounts) rows (All-permutation (IsFound accounts) (rows_of accounts) rows moved (All-from_recursion (IsFound accounts) (rows_of accounts) (all_found accounts are))) in
-    let apart : IsDistinct same_rank rows = IsDistinct-IsPermutation same_rank (eq_by_cmp_equiv row_total).symm (rows_of accounts) rows moved (all_apart accounts are) in
-    let merge : IsMerge accounts rows = record { exactly = moved; order = strict row_cmp row_total rows up apart } in
+    let found : AllByRecursion (IsFound accounts) rows = recursion_from_All (IsFound accounts) rows (All-permutation (IsFound accounts) (all_rows accounts) rows moved (All-from_recursion (IsFound accounts) (all_rows accounts) (all_found accounts are))) in
+    let merge = sorted_merge accounts rows are moved up in
     record {
       filled = All-from_recursion (λ place. IsSome (row_at accounts place)) (map key_place (map row_key rows)) (all_filled accounts rows found);
       merge = subst (IsMerge accounts) (sym (read_back accounts rows found)) merge;
     }
 
-pub merge_order : (accounts : List (List Row)) (keys : List Key) → AreAccounts accounts → IsPermutation (map row_key (rows_of accounts)) keys → IsSorted key_cmp keys → IsMergeOrder accounts (map key_place keys)
+pub merge_order : (accounts : List (List Row)) (keys : List Key) → AreAccounts accounts → IsPermutation (map row_key (all_rows accounts)) keys → IsSorted key_cmp keys → IsMergeOrder accounts (map key_place keys)
 merge_order accounts keys are moved up =
-    let rows = taken accounts (rows_of accounts) keys (all_found accounts are) moved in
+    let rows = taken accounts (all_rows accounts) keys (all_found accounts are) moved in
     subst (λ ks. IsMergeOrder accounts (map key_place ks)) rows.2
     (order_of_rows accounts rows.0 are rows.1 (sorted_rows rows.0 (subst (IsSorted key_cmp) (sym rows.2) up)))

@@ -12,17 +12,17 @@ use Rattle.std.proofs.lemmas.List.Elements.{All-from_recursion, recursion_from_A
 use Rattle.std.proofs.lemmas.List.Sorted.{All-permutation, sum_by-IsPermutation, ranks_by}
 use Rattle.reg_model.specs.declared.reply.Row.{Row}
 use Rattle.reg_model.specs.declared.merging.Place.{Place}
-use Rattle.reg_model.specs.Rows.{row_cmp, IsMerge}
+use Rattle.reg_model.specs.Rows.{row_cmp, IsMerge, all_rows}
 use Rattle.reg_model.specs.Merge.{row_at, AreAccounts}
-use Rattle.reg_model.specs.MergeKeys.{row_place}
-use Rattle.reg_model.proofs.AtHome.{rows_of, IsFound, all_found, same_rank, lower_session, lower_number}
+use Rattle.reg_model.specs.inner.MergeKeys.{row_place}
+use Rattle.reg_model.proofs.AtHome.{IsFound, all_found, same_rank, lower_session, lower_number}
 use Rattle.reg_model.proofs.SortedHits.{same_sorted}
 use Rattle.reg_model.proofs.MergeSteps.{row_total}
 
-abbrev row_before : Row → Row → Bool
+abbrev pub row_before : Row → Row → Bool
 row_before a b = is_lt (row_cmp a b)
 
-is_order : IsStrictWeakOrder row_before
+pub is_order : IsStrictWeakOrder row_before
 is_order = ranks_by row_total (λ r. r)
 
 not_back : (a b : Ordering) → a ≡ ordering_reverse b → a ≡ Less → is_lt b ≡ false
@@ -43,7 +43,7 @@ step x y rows less up (suc k) d high =
     let next : suc k + 1 ≡ suc (k + 1) = omega arith in
     subst (λ j. row_before (get_or (x ∷ y ∷ rows) j d) (get_or (y ∷ rows) k d) ≡ false) (sym next) (up k d (omega arith) (omega (arith, high)))
 
-sorted : (rows : List Row) → IsStrictlySortedBy row_cmp rows → IsSortedBy row_before rows
+pub sorted : (rows : List Row) → IsStrictlySortedBy row_cmp rows → IsSortedBy row_before rows
 unfolding IsStrictlySortedBy
 sorted [] up = λ k d low high. absurd (omega (arith, high))
 sorted (x ∷ []) up = λ k d low high. absurd (omega (arith, high))
@@ -60,7 +60,7 @@ same_place a b h k =
     let behind : b.number < a.number → ⊥ = λ lt. true≢false (sym k ∙ lower_number b a lt) in
     ap₂ place_made (omega (arith, less, more)) (omega (arith, before, behind))
 
-same_row : (accounts : List (List Row)) (a b : Row) → IsFound accounts a → IsFound accounts b → row_before a b ≡ false → row_before b a ≡ false → a ≡ b
+pub same_row : (accounts : List (List Row)) (a b : Row) → IsFound accounts a → IsFound accounts b → row_before a b ≡ false → row_before b a ≡ false → a ≡ b
 same_row accounts a b found too h k =
     let place : row_place a ≡ row_place b = same_place a b (equal (row_cmp a b) (row_cmp b a) (row_total.antisymm a b) h k) (equal (row_cmp b a) (row_cmp a b) (row_total.antisymm b a) k h) in
     let both : Some a ≡ Some b = sym found ∙ ap (λ p. row_at accounts p) place ∙ too in
@@ -68,10 +68,10 @@ same_row accounts a b found too h k =
 
 all_there : (accounts : List (List Row)) (rows : List Row) → AreAccounts accounts → IsMerge accounts rows → AllByRecursion (IsFound accounts) rows
 all_there accounts rows are merge =
-    recursion_from_All (IsFound accounts) rows (All-permutation (IsFound accounts) (rows_of accounts) rows merge.exactly (All-from_recursion (IsFound accounts) (rows_of accounts) (all_found accounts are)))
+    recursion_from_All (IsFound accounts) rows (All-permutation (IsFound accounts) (all_rows accounts) rows merge.exactly (All-from_recursion (IsFound accounts) (all_rows accounts) (all_found accounts are)))
 
 pub one_merge : (accounts : List (List Row)) (a b : List Row) → AreAccounts accounts → IsMerge accounts a → IsMerge accounts b → a ≡ b
 one_merge accounts a b are h k =
     same_sorted row_before is_order (IsFound accounts) (same_row accounts) a b (all_there accounts a are h) (all_there accounts b are k)
     (sorted a h.order) (sorted b k.order)
-    (λ f. sum_by-IsPermutation f (rows_of accounts) a h.exactly ∙ sym (sum_by-IsPermutation f (rows_of accounts) b k.exactly))
+    (λ f. sum_by-IsPermutation f (all_rows accounts) a h.exactly ∙ sym (sum_by-IsPermutation f (all_rows accounts) b k.exactly))

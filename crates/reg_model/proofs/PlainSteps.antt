@@ -14,7 +14,8 @@ use Rattle.reg_model.specs.declared.reply.FullCause.TheVariants.{Log}
 use Rattle.reg_model.specs.Live.{live_at, IsLive}
 use Rattle.reg_model.specs.Replies.{Replies}
 use Rattle.reg_model.specs.Rows.{update_of}
-use Rattle.reg_model.specs.Registry.{Registry, Serves, withdraw_reply, IsCurrent}
+use Rattle.reg_model.specs.Registry.{Registry, Serves, withdraw_reply}
+use Rattle.reg_model.specs.inner.Current.{IsCurrent}
 use Rattle.reg_model.proofs.Rising.{has_id, IsAt, find-at, at_inside}
 use Rattle.reg_model.proofs.LiveSteps.{current_within}
 

@@ -1,6 +1,6 @@
 -- Declarations by rising id.
-use Rattle.std.proofs.Common.{◌≡◌, ℕ, zero, suc, ◌+◌, ◌<◌, ◌≤◌, Bool, true, false, not, ◌==◌, cond, List, [], ◌∷◌, ◌++◌, length, filter, find, None, refl, sym, ap, subst, arith}
-use Rattle.std.specs.Prelude.{All, IsSomeAnd, slice_get, get_or, Result, Ok, Err, IfSome, IfNone}
+use Rattle.std.proofs.Common.{◌≡◌, ℕ, zero, suc, ◌+◌, ◌<◌, ◌≤◌, Bool, true, false, not, ◌==◌, cond, List, [], ◌∷◌, ◌++◌, length, filter, find, Some, None, refl, sym, ap, subst, arith}
+use Rattle.std.specs.Prelude.{All, IsSome, IsSomeAnd, slice_get, get_or, Result, Ok, Err, IfSome, IfNone}
 use Rattle.std.specs.Result.{result_ok}
 use Rattle.std.specs.List.{remove}
 use Rattle.std.specs.List.Sorted.{IsSearchInRange, IsBinarySearchResult, IsNonDecreasingBy}
@@ -8,6 +8,7 @@ use Rattle.std.specs.Ordering.{nat_cmp, ordering_index}
 use Rattle.std.proofs.lemmas.Cmp.{ranked}
 use Rattle.std.proofs.lemmas.List.Sorted.{IsNonDecreasingBy-from_default}
 use Rattle.std.proofs.lemmas.Option.{slice_get-get_or}
+use Rattle.std.proofs.lemmas.Bool.{true≢false}
 use Rattle.std.proofs.lemmas.Bool.Decides.{nat_tests}
 use Rattle.std.proofs.lemmas.List.Kept.{AllPairs-cons}
 use Rattle.std.proofs.lemmas.List.Elements.{All-cons, All-head, All-tail}
@@ -146,6 +147,15 @@ find-at id (suc i) low high (d ∷ ds) h at =
     let above = at_or_above id i (d.id + 1) high ds h.1 at in
     let other : has_id id d ≡ false = grind (arith, nat_tests, above) in
     rw other (find-at id i (d.id + 1) high ds h.1 at)
+
+-- a declaration that is found stands at a place
+pub at_found : (id : ℕ) (ds : List Declared) → IsSome (find (has_id id) ds) → (place : ℕ) × IsAt id place ds
+at_found id [] h = absurd (true≢false (sym h))
+at_found id (d ∷ ds) h = step (has_id id d) refl (at_found id ds) h
+  where
+    step : (b : Bool) → has_id id d ≡ b → (IsSome (find (has_id id) ds) → (place : ℕ) × IsAt id place ds) → IsSome (cond b (Some d) (find (has_id id) ds)) → (place : ℕ) × IsAt id place (d ∷ ds)
+    step true this rest found = (zero, grind (arith, nat_tests, this))
+    step false other rest found = let behind = rest found in (suc behind.0, behind.1)
 
 -- nothing is found where no declaration has the id
 pub find-none : (id : ℕ) (ds : List Declared) → All (λ (d : Declared). d.id ≡ id → ⊥) ds → find (has_id id) ds ≡ None

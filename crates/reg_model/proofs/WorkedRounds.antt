@@ -118,6 +118,10 @@ wrong_count row = let reply = row.reply in cc
 log_not_spent : MayFollow two_sessions empty front (row_of 0 1 2 (calls.Declare (meta 0)) (replies.Full Log)) → ⊥
 log_not_spent row = let reply = row.reply in absurd (omega (arith, reply))
 
+-- no query has a radius above 15
+too_wide : MayFollow two_sessions empty front (row_of 0 1 2 (calls.Near (meta 0) 16) (replies.Hits [])) → ⊥
+too_wide row = let reply = row.reply in absurd (omega (arith, reply.0))
+
 -- ---- the boundaries of a refusal for want of entries
 
 abbrev three_sessions : Limits

@@ -1,8 +1,7 @@
 -- The slow registry: what it keeps, and what one call does.
-use Rattle.std.specs.Prelude.{◌≡◌, ℕ, ◌+◌, ◌<◌, ◌≤◌, ◌^◌, true, ◌==◌, nat_lt, if◌then◌else◌, List, ◌++◌, length, Option, Some, None, is_none}
+use Rattle.std.specs.Prelude.{◌≡◌, ℕ, ◌+◌, ◌≤◌, ◌^◌, ◌==◌, nat_lt, if◌then◌else◌, List, ◌++◌, length, Option, Some, None, is_none}
 use Rattle.std.specs.Option.{option_to_list}
 use Rattle.reg_model.specs.declared.update.Update.{Update}
-use Rattle.reg_model.specs.declared.update.Declared.{Declared}
 use Rattle.reg_model.specs.declared.call.Call.{Call}
 use Rattle.reg_model.specs.declared.reply.Answer.{Answer}
 use Rattle.reg_model.specs.declared.reply.Reply.{Reply}
@@ -10,9 +9,9 @@ use Rattle.reg_model.specs.declared.reply.Reply.TheVariants.{Id, Withdrawn, Abse
 use Rattle.reg_model.specs.declared.reply.FullCause.TheVariants.{Log, Entries}
 use Rattle.reg_model.specs.declared.start.StartFault.{StartFault}
 use Rattle.reg_model.specs.declared.start.StartFault.TheVariants.{TooSmall, IdsSpent}
-use Rattle.reg_model.specs.Limits.{Limits, IsInRange}
-use Rattle.reg_model.specs.Opening.{Opening, IsOpening}
-use Rattle.reg_model.specs.Live.{live, live_at, is_withdrawn, declarations, withdrawals}
+use Rattle.reg_model.specs.Limits.{Limits}
+use Rattle.reg_model.specs.Opening.{Opening}
+use Rattle.reg_model.specs.Live.{live, live_at, withdrawals}
 use Rattle.reg_model.specs.Replies.{Replies}
 use Rattle.reg_model.specs.Rows.{update_of}
 
@@ -49,17 +48,3 @@ start_refusal limits opening =
     if nat_lt limits.entries (length opening.list) then Some (TooSmall (length opening.list) limits.entries)
     else if nat_lt (2 ^ 34) (opening.base + limits.log) then Some (IdsSpent opening.base limits.log)
     else None
-
--- what holds of a registry between two calls, with the list of its live declarations and the count of its withdrawals
-pub record IsCurrent (r : Registry) (live_list : List Declared) (withdrawn : ℕ) : Type 0 where
-  pub limits : IsInRange r.limits
-  pub opening : IsOpening r.opening
-  pub ids : r.opening.base + r.limits.log ≤ 2 ^ 34
-  pub within : length r.log ≤ r.limits.log
-  pub room : length live_list ≤ r.limits.entries
-  pub kept : live_list ≡ live r.opening r.log
-  pub counted : withdrawn ≡ withdrawals r.log
-  -- a withdrawn id is one that was given
-  pub below : (id : ℕ) → is_withdrawn r.log id ≡ true → id < r.opening.base + length r.log
-  -- each withdrawal ends one declaration
-  pub balance : length live_list + withdrawals r.log ≡ length r.opening.list + declarations r.log

@@ -1,8 +1,9 @@
 -- Rounds, one after another.
 use Rattle.std.specs.Prelude.{◌+◌, ◌^◌, ◌≤◌, List, [], ◌∷◌, length}
+use Rattle.reg_model.specs.declared.round.TheConstants.{ROUNDS_MOST}
 use Rattle.reg_model.specs.declared.reply.Row.{Row}
 use Rattle.reg_model.specs.Limits.{Limits, IsInRange}
-use Rattle.reg_model.specs.Opening.{Opening, IsOpening}
+use Rattle.reg_model.specs.Opening.{Opening, IsOpening, opening_of}
 use Rattle.reg_model.specs.Live.{opening_after}
 use Rattle.reg_model.specs.Rows.{log_of, IsLawful}
 
@@ -33,11 +34,11 @@ IsLawfulRun opening (round ∷ rounds) = IsLawfulRound opening round × IsLawful
 
 -- what a run begins with where nothing is loaded
 abbrev pub nothing : Opening
-nothing = record { base = 0; list = [] }
+nothing = opening_of 0 []
 
--- A history: one to eight rounds of a lawful run.
+-- A history: one to eight (`ROUNDS_MOST`) rounds of a lawful run.
 pub record IsHistory (opening : Opening) (rounds : List RoundRows) : Type 0 where
   pub opens : IsOpening opening
   pub some : 1 ≤ length rounds
-  pub few : length rounds ≤ 8
+  pub few : length rounds ≤ ROUNDS_MOST
   pub lawful : IsLawfulRun opening rounds

@@ -21,13 +21,20 @@ mod update;
 
 pub use call::Call;
 pub use carried::Carried;
-pub use laws::hits_are_told_by_their_list;
-pub use lists::{Accounts, Hits, Items, Rows, Updates};
+pub use laws::{
+    a_lone_round_has_one_list_of_rows, a_merge_keeps_each_account, accounts_have_one_merge,
+    accounts_in_one_log_merge, each_call_comes_after_what_its_session_had_seen,
+    hits_are_told_by_their_list, lawful_rows_stand_in_their_log,
+};
+pub use lists::{Accounts, Hits, Rows, Updates};
 pub use merging::{Order, Place, merge};
 pub use plain::Plain;
 pub use reply::{Answer, FullCause, Hit, Reply, Row};
-pub use round::Round;
-pub use sizes::Sizes;
+pub use round::{ROUNDS_MOST, Round};
+pub use sizes::{
+    BITS_LEAST, BITS_MOST, BITS_USUAL, CALLERS_MOST, ENTRIES_MOST, ENTRIES_USUAL, LOG_MOST,
+    LOG_USUAL, Sizes,
+};
 pub use start::StartFault;
 pub use update::{Declared, Update};
 

@@ -1,15 +1,14 @@
 //! The merge of the sessions' rows of a round: std's sort, over a key for each row.
 
 ghost use Rattle.std.specs.Prelude.{◌≡◌, ◌-◌, ◌^◌, ◌++◌, IfOk, OnOk, length, map, min};
-ghost use Rattle.std.specs.List.{flat_map};
-ghost use Rattle.reg_model.specs.Rows.{is_accepted as row_is_accepted};
+ghost use Rattle.reg_model.specs.Rows.{is_accepted as row_is_accepted, all_rows};
 ghost use Rattle.reg_model.specs.Merge.{AreAccounts, IsMergeOrder};
-ghost use Rattle.reg_model.specs.MergeKeys.{row_key, key_place};
+ghost use Rattle.reg_model.specs.inner.MergeKeys.{row_key, key_place};
 
 use crate::call::Call;
-use crate::lists::{Accounts, Items};
+use crate::lists::Accounts;
 use crate::reply::{Reply, Row};
-use iscc_header::NoMemory;
+use iscc_header::{Items, NoMemory};
 use std::alloc::{AllocError, Global};
 
 /// Where a row stands in the accounts of a round: its session, and its number in the account of that session.
@@ -31,8 +30,6 @@ struct Key {
 }
 
 /// The order of all rows of a round: by point, accepted rows before others, then by session and number.
-///
-/// Takes linear memory, and n log n steps for n rows.
 pub fn merge(alloc: Global, accounts: &Accounts) -> Result<Order, NoMemory>
     requires { AreAccounts accounts.now }
     ensures { IfOk result (λ order. IsMergeOrder accounts.now order) }
@@ -44,7 +41,7 @@ pub fn merge(alloc: Global, accounts: &Accounts) -> Result<Order, NoMemory>
 
 // The keys of all rows, one account after the other.
 fn unsorted_keys(alloc: Global, accounts: &Accounts) -> Result<Vec<Key>, AllocError>
-    ensures { IfOk result (λ keys. keys.items ≡ map row_key (flat_map (λ account. account) accounts.now)) }
+    ensures { IfOk result (λ keys. keys.items ≡ map row_key (all_rows accounts.now)) }
 {
     let mut keys = Vec::with_capacity(alloc, row_count(accounts))?;
     for account in accounts.as_slice() {
@@ -55,7 +52,7 @@ fn unsorted_keys(alloc: Global, accounts: &Accounts) -> Result<Vec<Key>, AllocEr
 
 // How many rows the accounts have together, or the greatest `usize` if they are more.
 fn row_count(accounts: &Accounts) -> usize
-    ensures { result ≡ min (length (flat_map (λ account. account) accounts.now)) (2 ^ 64 - 1) }
+    ensures { result ≡ min (length (all_rows accounts.now)) (2 ^ 64 - 1) }
 {
     let mut count: usize = 0;
     for account in accounts.as_slice() {

@@ -7,12 +7,12 @@ ghost use Rattle.reg_model.specs.Registry.{Serves, declare_reply, withdraw_reply
 
 use crate::RADIUS_MOST;
 use crate::carried::Carried;
-use crate::lists::Hits;
+use crate::lists::{Hits, Updates};
 use crate::reply::{Answer, FullCause, Hit, Reply};
 use crate::sizes::Sizes;
 use crate::start::StartFault;
 use crate::update::{Declared, Update};
-use iscc_header::{NoMemory, Unit64, distance};
+use iscc_header::{Items, NoMemory, Unit64, distance};
 use std::alloc::{AllocError, Global};
 use std::marker::Model;
 
@@ -32,20 +32,22 @@ pub struct Plain {
 
 impl Model for Plain {
     ghost use Rattle.std.specs.Prelude.{◌≤◌, vec_capacity};
-    ghost use Rattle.reg_model.specs.Registry.{Registry, IsCurrent};
+    ghost use Rattle.reg_model.specs.Registry.{Registry};
+    ghost use Rattle.reg_model.specs.Opening.{opening_of};
+    ghost use Rattle.reg_model.specs.inner.Current.{IsCurrent};
 
     ghost Value = { Registry };
 
     ghost view = { λ p. record {
       limits = p.sizes;
-      opening = record { base = p.base; list = p.carried.items };
+      opening = opening_of p.base p.carried.items;
       log = p.log.items;
     } };
 
     ghost invariant = { λ p. IsCurrent
         (record {
           limits = p.sizes;
-          opening = record { base = p.base; list = p.carried.items };
+          opening = opening_of p.base p.carried.items;
           log = p.log.items;
         })
         p.live.items
@@ -178,7 +180,17 @@ impl Plain {
         ensures { IfOk result (λ carried. carried ≡ opening_after self.now.opening self.now.log) }
     {
         let list = Vec::from_slice(alloc, &self.live)?;
-        Ok(Carried::of(self.point(), list))
+        Ok(Carried::from_list(self.point(), Items::from_vec(list)))
+    }
+
+    /// Ends the registry, and gives its updates and what the next round begins with. Takes no memory.
+    pub fn into_parts(self) -> (Updates, Carried)
+        ensures updates { result.0 ≡ self.log }
+        ensures carried { result.1 ≡ opening_after self.opening self.log }
+    {
+        let base = self.point();
+        let carried = Carried::from_list(base, Items::from_vec(self.live));
+        (Items::from_vec(self.log), carried)
     }
 
     // A reply at the end of the log.

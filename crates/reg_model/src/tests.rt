@@ -3,17 +3,17 @@ ghost use Rattle.reg_model.specs.declared.reply.Row.{Row as ARow};
 ghost use Rattle.reg_model.specs.Merge.{AreAccounts};
 
 use super::*;
-use iscc_header::{Kind, NoMemory, Unit64};
+use iscc_header::{Items, Kind, MainType, NoMemory, Unit64};
 use std::alloc::Global;
 use std::test::Fail;
 
 fn meta(body: u64) -> Result<Unit64, Fail> {
-    let kind = Kind::new(0).ok_or("no kind")?;
+    let kind = Kind::of(MainType::Meta, 0).ok_or("no kind")?;
     Ok(Unit64 { kind, body })
 }
 
 fn content(body: u64) -> Result<Unit64, Fail> {
-    let kind = Kind::new(6).ok_or("no kind")?;
+    let kind = Kind::of(MainType::Content, 0).ok_or("no kind")?;
     Ok(Unit64 { kind, body })
 }
 
@@ -194,6 +194,30 @@ fn carried_declarations_are_pushed_by_id(rt: HostRuntime) -> Result<(), Fail> {
     assert_eq!(rt; plain.show(8), at(9, Reply::Live(meta(8)?)));
     assert_eq!(rt; plain.show(5), at(9, Reply::Absent(5)));
     assert_eq!(rt; plain.count(), at(9, Reply::Count(2)));
+    Ok(())
+}
+
+#[test]
+fn an_ended_registry_gives_its_updates_and_what_is_carried(rt: HostRuntime) -> Result<(), Fail> {
+    let mut plain = plain(rt.alloc(), 4, 64)?;
+    let _ = plain.declare(meta(7)?);
+    let _ = plain.declare(meta(8)?);
+    let _ = plain.withdraw(0);
+    let (updates, carried) = plain.into_parts();
+    assert_eq!(rt; updates.into_vec().len(), 3);
+    assert_eq!(rt; carried.base(), 3);
+    let copy = carried.try_clone(rt.alloc())?;
+    assert_eq!(rt; copy.base(), 3);
+    assert_eq!(rt; copy.list(), carried.list());
+    assert_eq!(rt; copy.list().len(), 1);
+    Ok(())
+}
+
+#[test]
+fn a_list_by_rising_id_is_carried(rt: HostRuntime) -> Result<(), Fail> {
+    let carried = Carried::from_list(1 << 34, Items::new(rt.alloc()));
+    assert_eq!(rt; carried.base(), 1 << 34);
+    assert_eq!(rt; carried.list().len(), 0);
     Ok(())
 }
 

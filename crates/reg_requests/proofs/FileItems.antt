@@ -11,8 +11,9 @@ use Rattle.reg_requests.specs.declared.items.Line.TheVariants as lines
 use Rattle.reg_requests.specs.declared.items.Item.{Item}
 use Rattle.reg_requests.specs.declared.items.Item.TheVariants as items
 use Rattle.reg_requests.specs.Words.{lines_of, line_words}
-use Rattle.reg_requests.specs.Requests.{ReadsLine, AreItems, IsRequest, items_of, call_in, calls_of}
-use Rattle.reg_requests.specs.Reading.{AddsLine}
+use Rattle.reg_requests.specs.Requests.{ReadsLine, AreItems, items_of, call_in, calls_of}
+use Rattle.reg_model.specs.Calls.{IsRequest}
+use Rattle.reg_requests.specs.inner.Reading.{AddsLine}
 use Rattle.reg_requests.proofs.LineBytes.{five_bytes}
 use Rattle.reg_requests.proofs.OneReading.{one_reading}
 

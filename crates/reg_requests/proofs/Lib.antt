@@ -3,7 +3,7 @@ pub mod WordLemmas
 pub mod HexDigits
 pub mod FirstLine
 pub mod OneReading
-pub mod TakenCodes
+pub mod TakenIsccs
 pub mod LineBytes
 pub mod FileItems
 pub mod WorkedLines

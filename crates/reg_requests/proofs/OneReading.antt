@@ -5,7 +5,7 @@ use Rattle.arrayvec.specs.ArrayVec.{ArrayVec}
 use Rattle.hex.specs.Hex.{decode_of}
 use Rattle.iscc_header.specs.declared.unit.Unit64.{Unit64}
 use Rattle.iscc_code.specs.Codes.{units_of}
-use Rattle.iscc_text.proofs.OneText.{one_code}
+use Rattle.iscc_text.proofs.OneText.{one_iscc}
 use Rattle.iscc_instance.specs.Instances.{instance_of}
 use Rattle.reg_model.specs.declared.call.Call.{Call}
 use Rattle.reg_model.specs.declared.call.Call.TheVariants as calls
@@ -20,17 +20,17 @@ same_list a b e = ap (λ items. record { items = items }) e
 
 one_text : (text : List ℕ) (a b : Result (ArrayVec Unit64) BadLine) → TextMeans text a → TextMeans text b → a ≡ b
 one_text text (Ok a) (Ok b) h k =
-    let same = one_code text h.0 k.0 h.1 k.1 in
+    let same = one_iscc text h.0 k.0 h.1 k.1 in
     let units : Some a.items ≡ Some b.items = sym h.2 ∙ ap units_of same ∙ k.2 in
     ap Ok (same_list a b (cc))
 one_text text (Ok a) (Err bad.Text) h k = absurd (k h.0 h.1)
-one_text text (Ok a) (Err bad.Short) h k = absurd (let units = sym h.2 ∙ ap units_of (one_code text h.0 k.0 h.1 k.1) ∙ k.2 in cc)
+one_text text (Ok a) (Err bad.Short) h k = absurd (let units = sym h.2 ∙ ap units_of (one_iscc text h.0 k.0 h.1 k.1) ∙ k.2 in cc)
 one_text text (Ok a) (Err why) h k = absurd k
 one_text text (Err bad.Text) (Ok b) h k = absurd (h k.0 k.1)
 one_text text (Err bad.Text) (Err bad.Text) h k = refl
 one_text text (Err bad.Text) (Err bad.Short) h k = absurd (h k.0 k.1)
 one_text text (Err bad.Text) (Err why) h k = absurd k
-one_text text (Err bad.Short) (Ok b) h k = absurd (let units = sym h.2 ∙ ap units_of (one_code text h.0 k.0 h.1 k.1) ∙ k.2 in cc)
+one_text text (Err bad.Short) (Ok b) h k = absurd (let units = sym h.2 ∙ ap units_of (one_iscc text h.0 k.0 h.1 k.1) ∙ k.2 in cc)
 one_text text (Err bad.Short) (Err bad.Text) h k = absurd (k h.0 h.1)
 one_text text (Err bad.Short) (Err bad.Short) h k = refl
 one_text text (Err bad.Short) (Err why) h k = absurd k

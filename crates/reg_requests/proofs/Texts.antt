@@ -7,7 +7,7 @@ use Rattle.std.proofs.Math.Seq.{take-append_seam}
 use Rattle.reg_model.specs.declared.reply.Hit.{Hit}
 use Rattle.reg_model.specs.declared.reply.Reply.TheVariants.{Hits}
 use Rattle.reg_requests.specs.Lines.{spaced, hit_text, reply_text}
-use Rattle.reg_requests.specs.Printing.{Grows}
+use Rattle.reg_requests.specs.inner.Printing.{Grows}
 
 -- a word and others behind it: a space before each
 pub spaced-map : {X : Type 0} (f : X → List ℕ) (word : List ℕ) (xs : List X) → spaced (word ∷ map f xs) ≡ word ++ flat_map (λ x. 32 ∷ f x) xs

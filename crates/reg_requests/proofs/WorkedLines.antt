@@ -7,7 +7,7 @@ use Rattle.std.proofs.lemmas.List.Sums.{AllPass-from_list_all}
 use Rattle.iscc_header.specs.Bits.{bits_of, byte_bits, IsByte}
 use Rattle.iscc_header.specs.declared.unit.Unit64.{Unit64}
 use Rattle.iscc_code.specs.Units.{UnitParts, IsUnit, first_bits}
-use Rattle.iscc_code.specs.Codes.{SpellsIscc, units_of}
+use Rattle.iscc_code.specs.Codes.{EncodesIscc, units_of}
 use Rattle.iscc_code.specs.declared.iscc.Iscc.TheVariants as isccs
 use Rattle.iscc_text.specs.Base32.{letters}
 use Rattle.iscc_text.specs.Texts.{is_blank, is_letter, is_allowed, capital, capitals, StandsFor}
@@ -107,16 +107,16 @@ meta_valid last small = record {
   bytes = All-from_recursion IsByte (meta last).body (lit< tt, (lit< tt, (lit< tt, (lit< tt, (lit< tt, (lit< tt, (lit< tt, (small, tt))))))));
 }
 
-meta_spelled : (last : ℕ) → last < 256 → SpellsIscc (isccs.Unit (meta last)) (0 ∷ 1 ∷ (meta last).body)
+meta_encoded : (last : ℕ) → last < 256 → EncodesIscc (isccs.Unit (meta last)) (0 ∷ 1 ∷ (meta last).body)
 unfolding byte_bits bits_of
-meta_spelled last small = record {
+meta_encoded last small = record {
   valid = meta_valid last small;
   parts = record {
     front = 0 ∷ 1 ∷ [];
-    spelled = record {
+    encoded = record {
       numbers = record { main = lit< tt; sub = lit< tt; version = lit< tt; len = lit< tt };
       range = All-from_recursion IsByte (0 ∷ 1 ∷ []) (lit< tt, (lit< tt, tt));
-      spelled = refl;
+      encoded = refl;
     };
     whole = refl;
   };
@@ -131,13 +131,13 @@ meta_stands last m small allowed same = record {
   scheme = codes "ISCC:";
   m = m;
   after = [];
-  spelling = 0 ∷ 1 ∷ (meta last).body;
+  encoding = 0 ∷ 1 ∷ (meta last).body;
   whole = ap (λ t. codes "ISCC:" ++ t) (sym (append-nil m));
   blanks = (AllPass-from_list_all is_blank [] refl, AllPass-from_list_all is_blank [] refl);
   named = inr refl;
   allowed = AllPass-from_list_all is_allowed m allowed;
   same = same;
-  spelled = meta_spelled last small;
+  encoded = meta_encoded last small;
 }
 
 stands_0 : StandsFor (codes "ISCC:AAAQAAAAAAAAAAAA") (isccs.Unit (meta 0))

@@ -1,8 +1,8 @@
+pub use Rattle.reg_model.specs.Calls
 pub mod Words
 pub mod Numbers
 pub mod Lines
-pub mod Printing
 pub mod Requests
-pub mod TakenCodes
-pub mod Reading
+pub mod TakenIsccs
 pub mod Laws
+pub mod inner

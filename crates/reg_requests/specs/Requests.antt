@@ -1,12 +1,11 @@
 -- What the lines of a request file ask for.
-use Rattle.std.specs.Prelude.{◌≡◌, ℕ, ◌<◌, ◌≤◌, ◌^◌, ◌==◌, if◌then◌else◌, Bool, true, false, List, [], ◌∷◌, map, codes, ◌⊎◌, Option, Some, None, Result, Ok, Err}
+use Rattle.std.specs.Prelude.{◌≡◌, ℕ, ◌<◌, ◌≤◌, ◌==◌, if◌then◌else◌, Bool, true, false, List, [], ◌∷◌, map, codes, ◌⊎◌, Option, Some, None, Result, Ok, Err}
 use Rattle.std.specs.List.{AllZip, filter_map, flat_map}
 use Rattle.std.specs.Str.{bytes_eq}
 use Rattle.std.specs.Str.Parse.{digits_value}
 use Rattle.arrayvec.specs.ArrayVec.{ArrayVec}
 use Rattle.hex.specs.Hex.{decode_of}
 use Rattle.iscc_header.specs.declared.unit.Unit64.{Unit64}
-use Rattle.iscc_header.specs.Units.{IsUnit}
 use Rattle.iscc_code.specs.Codes.{units_of}
 use Rattle.iscc_code.specs.declared.iscc.Iscc.{Iscc}
 use Rattle.iscc_text.specs.Texts.{StandsFor}
@@ -75,7 +74,7 @@ is_skipped [] = true
 is_skipped ([] ∷ words) = false
 is_skipped ((first ∷ word) ∷ words) = first == 35
 
--- the units of the code that a text stands for, or why it is refused
+-- the units of the ISCC that a text stands for, or why it is refused
 abbrev pub TextMeans : List ℕ → Result (ArrayVec Unit64) BadLine → Type 0
 TextMeans text (Ok units) = (iscc : Iscc) × StandsFor text iscc × (units_of iscc ≡ Some units.items)
 TextMeans text (Err bad.Text) = (iscc : Iscc) → StandsFor text iscc → ⊥
@@ -140,15 +139,6 @@ items_of (lines.Calls list) = map items.Call list.items
 -- the items of a file: those of its lines, one after the other
 abbrev pub AreItems : List ℕ → List Item → Type 0
 AreItems file list = (read : List Line) × AllZip ReadsLine (lines_of file) read × (list ≡ flat_map items_of read)
-
--- the calls that a line may ask for
-abbrev pub IsRequest : Call → Type 0
-IsRequest (calls.Declare unit) = IsUnit unit
-IsRequest (calls.Withdraw id) = id < 2 ^ 64
-IsRequest (calls.Near unit radius) = IsUnit unit × (radius ≤ RADIUS_MOST)
-IsRequest (calls.Show id) = id < 2 ^ 64
-IsRequest calls.Count = Unit {0}
-IsRequest (calls.After point) = point < 2 ^ 64
 
 abbrev pub call_in : Item → Option Call
 call_in (items.Call call) = Some call

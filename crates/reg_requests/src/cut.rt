@@ -1,13 +1,14 @@
 ghost use Rattle.std.specs.Prelude.{◌≡◌, ◌≢◌, [], ◌∷◌, ◌++◌, ◌+◌, ◌<◌, ◌≤◌, ℕ, length, map, All, slice_index, IfOk, OnOk};
 ghost use Rattle.reg_requests.specs.declared.items.Item.TheVariants.{Call as ACallItem};
 ghost use Rattle.reg_requests.specs.Words.{lines_of};
-ghost use Rattle.reg_requests.specs.Requests.{AreItems, IsRequest, calls_of};
-ghost use Rattle.reg_requests.specs.Reading.{AddsLine};
+ghost use Rattle.reg_requests.specs.Requests.{AreItems, calls_of};
+ghost use Rattle.reg_model.specs.Calls.{IsRequest};
+ghost use Rattle.reg_requests.specs.inner.Reading.{AddsLine};
 
 use crate::items::{Item, Line, Requests};
 use crate::line::read_line;
-use iscc_header::NoMemory;
-use reg_model::{Call, Items};
+use iscc_header::{Items, NoMemory};
+use reg_model::Call;
 use std::alloc::Global;
 
 /// The calls and refused lines of a request file, in order.

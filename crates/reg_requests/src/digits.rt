@@ -1,7 +1,7 @@
 ghost use Rattle.std.specs.Prelude.{◌≡◌, ◌<◌, ◌≤◌, ◌+◌, ◌*◌, ◌%◌, ◌^◌, ◌++◌, ℕ, List, length, true, false, IfSome, IfNone, IfOk, Ok};
 ghost use Rattle.hex.specs.Hex.{decode_of};
 ghost use Rattle.iscc_instance.specs.Tree.{hash};
-ghost use Rattle.iscc_header.specs.Units.{IsUnit};
+ghost use Rattle.iscc_header.specs.Unit64s.{IsUnit64};
 ghost use Rattle.iscc_instance.specs.Hasher.{HasTaken, hasher_len};
 ghost use Rattle.iscc_instance.specs.Instances.{instance_of};
 ghost use Rattle.reg_requests.specs.Requests.{DigitsMean};
@@ -16,7 +16,7 @@ const PIECE: usize = 64;
 /// The Instance-Code of the bytes that hexadecimal digits stand for, in either case.
 pub(crate) fn read_digits(digits: &[u8]) -> Result<Unit64, BadLine>
     ensures means { DigitsMean digits.now result }
-    ensures range { IfOk result IsUnit }
+    ensures range { IfOk result IsUnit64 }
 {
     match hash_of(digits) {
         Some(hash) => Ok(instance_unit(&hash, 64).first64().unwrap()),

@@ -1,14 +1,15 @@
 use arrayvec::ArrayVec;
-use reg_model::{Call, Items};
+use iscc_header::Items;
+use reg_model::Call;
 
 /// Why a line is refused, in the order of the causes.
 #[derive(Clone, Copy, Debug, PartialEq, Eq)]
 pub enum BadLine {
     /// The first word is no command, or the number of words isn't the command's.
     Line,
-    /// A text is that of no code.
+    /// A text is that of no ISCC.
     Text,
-    /// A code is a unit of 32 bits, which has no first 64 bits.
+    /// A text is that of a unit of 32 bits, which has no first 64 bits.
     Short,
     /// A word isn't a number of 1 to 20 decimal digits below 2^64.
     Number,
@@ -18,10 +19,10 @@ pub enum BadLine {
     Hex,
 }
 
-/// The calls of a line, in order: at most one for each unit of a code.
+/// The calls of a line, in order: at most one for each unit of an ISCC.
 pub(crate) type Calls = ArrayVec<Call, 5>;
 
-/// What a line of a request file asks for. A line may ask for several calls, since a code stands for each of its units.
+/// What a line of a request file asks for. A line may ask for several calls, since an ISCC stands for each of its units.
 #[derive(Debug, Drop, PartialEq)]
 pub enum Line {
     /// Nothing: a line without words, or a comment.

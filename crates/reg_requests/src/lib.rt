@@ -1,8 +1,8 @@
 //! Request lines: what each line of a request file asks for, and the texts of calls, replies and refused lines.
 //!
-//! It stands on the codes' texts (`iscc_text`, `iscc_code`), on the Instance-Codes of bytes (`iscc_instance`) and on
+//! It stands on the texts of ISCCs (`iscc_text`, `iscc_code`), on the Instance-Codes of bytes (`iscc_instance`) and on
 //! calls and replies (`reg_model`). `reg_top` serves the calls and prints the replies. The way of a file: `cut` (lines),
-//! `words` (words of a line), `line` (what the words ask for), with `code` for texts of codes, `number` and `digits`
+//! `words` (words of a line), `line` (what the words ask for), with `code` for texts of ISCCs, `number` and `digits`
 //! for the other words; the way back: `print`. `specs/Requests.antt` says what a line asks for and why it is refused.
 #![tactic(auto)]
 

@@ -1,12 +1,13 @@
 ghost use Rattle.std.specs.Prelude.{◌≡◌, ◌≤◌, ◌↔◌, [], ◌∷◌, List, length, map, All, true, false, Some, None, IfSome, IfNone, IfOk};
 ghost use Rattle.arrayvec.specs.ArrayVec.{ArrayVec as AList};
-ghost use Rattle.iscc_header.specs.Units.{IsUnit};
+ghost use Rattle.iscc_header.specs.Unit64s.{IsUnit64};
 ghost use Rattle.reg_model.specs.declared.call.Call.{Call as ACall};
 ghost use Rattle.reg_model.specs.declared.call.Call.TheVariants as calls;
 ghost use Rattle.reg_requests.specs.declared.items.BadLine.{BadLine as ABadLine};
 ghost use Rattle.reg_requests.specs.Words.{words_of, line_words};
-ghost use Rattle.reg_requests.specs.Reading.{AreRequests, OnlyNumberMeans};
-ghost use Rattle.reg_requests.specs.Requests.{Withdraw, Show, After, Instance, request_of, declare_request, near_request, number_request, count_request, instance_request, is_skipped, RequestMeans, NumberMeans, RadiusMeans, ReadsWords, ReadsLine, IsRequest};
+ghost use Rattle.reg_requests.specs.inner.Reading.{AreRequests, OnlyNumberMeans};
+ghost use Rattle.reg_requests.specs.Requests.{Withdraw, Show, After, Instance, request_of, declare_request, near_request, number_request, count_request, instance_request, is_skipped, RequestMeans, NumberMeans, RadiusMeans, ReadsWords, ReadsLine};
+ghost use Rattle.reg_model.specs.Calls.{IsRequest};
 
 use crate::code::read_units;
 use crate::digits::read_digits;
@@ -199,7 +200,7 @@ fn declare_calls(units: &[Unit64]) -> Calls
     requires { length units.now ≤ 5 }
     ensures calls { result.items ≡ map calls.Declare units.now }
     ensures few { length result.items ≤ 5 }
-    ensures requests { All IsUnit units.now → All IsRequest result.items }
+    ensures requests { All IsUnit64 units.now → All IsRequest result.items }
 {
     let mut calls = ArrayVec::new();
     for unit in units {
@@ -212,7 +213,7 @@ fn near_calls(units: &[Unit64], radius: u32) -> Calls
     requires few { length units.now ≤ 5 }
     ensures calls { result.items ≡ map (λ unit. calls.Near unit radius) units.now }
     ensures few { length result.items ≤ 5 }
-    ensures requests { All IsUnit units.now → radius ≤ RADIUS_MOST → All IsRequest result.items }
+    ensures requests { All IsUnit64 units.now → radius ≤ RADIUS_MOST → All IsRequest result.items }
 {
     let mut calls = ArrayVec::new();
     for unit in units {

@@ -3,7 +3,7 @@ ghost use Rattle.std.specs.Fmt.{decimal};
 ghost use Rattle.iscc_text.specs.UnitText.{unit_text};
 ghost use Rattle.reg_model.specs.declared.reply.Reply.TheVariants.{Hits as AHits};
 ghost use Rattle.reg_requests.specs.Lines.{call_text, reply_text, hit_text, bad_text, kind_of as kind_asked};
-ghost use Rattle.reg_requests.specs.Printing.{Grows};
+ghost use Rattle.reg_requests.specs.inner.Printing.{Grows};
 
 use crate::items::BadLine;
 use iscc_header::{Kind, NoMemory, Unit64};
@@ -71,7 +71,7 @@ pub fn kind_of(call: &Call) -> Kind
 {
     match call {
         Call::Near(unit, _) => unit.kind,
-        _ => Kind::new(0).unwrap(),
+        _ => Kind::default(),
     }
 }
 

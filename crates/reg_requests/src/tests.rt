@@ -1,6 +1,6 @@
 use super::*;
-use iscc_header::{Kind, Unit64};
-use reg_model::{Call, FullCause, Hit, Items, Reply};
+use iscc_header::{Items, Kind, MainType, Unit64};
+use reg_model::{Call, FullCause, Hit, Reply};
 use std::alloc::Global;
 use std::test::Fail;
 
@@ -156,7 +156,7 @@ fn instance_line(alloc: Global, count: usize, digits: &[u8; 16]) -> Result<Vec<u
 
 #[test]
 fn an_instance_line_hashes_all_of_its_digits_in_either_case(rt: HostRuntime) -> Result<(), Fail> {
-    let kind = Kind::new(12).ok_or("no kind")?;
+    let kind = Kind::of(MainType::Instance, 0).ok_or("no kind")?;
     for (count, body) in HASHES {
         for digits in [
             b"0123456789abcdef",
@@ -184,8 +184,8 @@ fn an_instance_line_hashes_all_of_its_digits_in_either_case(rt: HostRuntime) -> 
     Ok(())
 }
 
-fn unit(kind: u8, body: u64) -> Result<Unit64, Fail> {
-    let kind = Kind::new(kind).ok_or("no kind")?;
+fn unit(main: MainType, body: u64) -> Result<Unit64, Fail> {
+    let kind = Kind::of(main, 0).ok_or("no kind")?;
     Ok(Unit64 { kind, body })
 }
 
@@ -202,14 +202,14 @@ declare KADQAAAAAAAAAAAAAAAAAAAAAAAAAAAAAAAAAAAAAAAAAAAAAAAAAAAAAAAAAAAAAAAA";
 fn a_file_has_the_items_of_its_lines(rt: HostRuntime) -> Result<(), Fail> {
     let items = read_requests(rt.alloc(), FILE.as_bytes())?;
     let want = [
-        Item::Call(Call::Declare(unit(0, 0)?)),
+        Item::Call(Call::Declare(unit(MainType::Meta, 0)?)),
         Item::Bad(BadLine::Line),
-        Item::Call(Call::Near(unit(0, 1)?, 3)),
-        Item::Call(Call::Declare(unit(0, 0)?)),
-        Item::Call(Call::Declare(unit(1, 0)?)),
-        Item::Call(Call::Declare(unit(6, 0)?)),
-        Item::Call(Call::Declare(unit(11, 0)?)),
-        Item::Call(Call::Declare(unit(12, 0)?)),
+        Item::Call(Call::Near(unit(MainType::Meta, 1)?, 3)),
+        Item::Call(Call::Declare(unit(MainType::Meta, 0)?)),
+        Item::Call(Call::Declare(unit(MainType::Semantic, 0)?)),
+        Item::Call(Call::Declare(unit(MainType::Content, 0)?)),
+        Item::Call(Call::Declare(unit(MainType::Data, 0)?)),
+        Item::Call(Call::Declare(unit(MainType::Instance, 0)?)),
     ];
     assert_eq!(rt; items.as_slice(), want.as_slice());
     Ok(())
@@ -218,7 +218,11 @@ fn a_file_has_the_items_of_its_lines(rt: HostRuntime) -> Result<(), Fail> {
 // The text of a reply to a query for CONTENT TEXT.
 fn reply_text(alloc: Global, reply: &Reply) -> Result<String, Fail> {
     let mut out = Vec::new(alloc);
-    print_reply(reply, Kind::new(6).ok_or("no kind")?, &mut out)?;
+    print_reply(
+        reply,
+        Kind::of(MainType::Content, 0).ok_or("no kind")?,
+        &mut out,
+    )?;
     text_of(alloc, &out)
 }
 
@@ -245,7 +249,10 @@ fn a_reply_is_its_word_and_its_values(rt: HostRuntime) -> Result<(), Fail> {
             Reply::Hits(hits),
             "hits 2 7,0,ISCC:EAAQAAAAAAAAAAAA 3,15,ISCC:EAAQAAAAAAAAAAAA",
         ),
-        (Reply::Live(unit(0, 1)?), "live ISCC:AAAQAAAAAAAAAAAB"),
+        (
+            Reply::Live(unit(MainType::Meta, 1)?),
+            "live ISCC:AAAQAAAAAAAAAAAB",
+        ),
         (Reply::Count(5), "count 5"),
         (Reply::Reached, "reached"),
         (Reply::Ahead, "ahead"),
@@ -284,7 +291,7 @@ fn a_number_has_up_to_20_digits_and_is_below_2_to_the_64(rt: HostRuntime) {
 #[test]
 fn hits_have_the_kind_of_their_query(rt: HostRuntime) -> Result<(), Fail> {
     a_file_has_one_list_of_items();
-    let kind = Kind::new(6).ok_or("no kind")?;
+    let kind = Kind::of(MainType::Content, 0).ok_or("no kind")?;
     assert_eq!(rt; kind_of(&Call::Near(Unit64 { kind, body: 0 }, 1)), kind);
     Ok(())
 }

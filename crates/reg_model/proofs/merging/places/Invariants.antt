@@ -1,5 +1,5 @@
 use Rattle.std.proofs.Common.{◌≡◌, map, take}
-use Rattle.reg_model.specs.MergeKeys.{key_place}
+use Rattle.reg_model.specs.inner.MergeKeys.{key_place}
 use Rattle.reg_model.proofs.merging.places.Given as goal
 
 -- the places of what the loop has passed

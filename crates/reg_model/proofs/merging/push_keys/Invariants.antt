@@ -1,5 +1,5 @@
 use Rattle.std.proofs.Common.{◌≡◌, ◌++◌, map, take}
-use Rattle.reg_model.specs.MergeKeys.{row_key}
+use Rattle.reg_model.specs.inner.MergeKeys.{row_key}
 use Rattle.reg_model.proofs.merging.push_keys.Given as goal
 
 -- the keys of what the loop has passed

@@ -1,6 +1,6 @@
 use Rattle.std.proofs.Common.{◌≡◌, map, take}
 use Rattle.std.specs.List.{flat_map}
-use Rattle.reg_model.specs.MergeKeys.{row_key}
+use Rattle.reg_model.specs.inner.MergeKeys.{row_key}
 use Rattle.reg_model.proofs.merging.unsorted_keys.Given as goal
 
 -- the keys of the accounts that the loop has passed

@@ -3,7 +3,7 @@ use Rattle.std.specs.Prelude.{All}
 use Rattle.std.proofs.lemmas.List.{take_all}
 use Rattle.std.proofs.lemmas.List.Elements.{All-map}
 use Rattle.reg_model.specs.declared.call.Call.TheVariants as calls
-use Rattle.reg_requests.specs.Requests.{IsRequest}
+use Rattle.reg_model.specs.Calls.{IsRequest}
 use Rattle.reg_requests.proofs.line.declare_calls.Goals as goal
 
 pub returns-clause-requests : goal.returns-clause-requests

@@ -5,7 +5,7 @@ use Rattle.std.proofs.lemmas.List.Elements.{All-map}
 use Rattle.iscc_header.specs.declared.unit.Unit64.{Unit64}
 use Rattle.reg_model.specs.declared.call.Call.{Call}
 use Rattle.reg_model.specs.declared.call.Call.TheVariants as calls
-use Rattle.reg_requests.specs.Requests.{IsRequest}
+use Rattle.reg_model.specs.Calls.{IsRequest}
 use Rattle.reg_requests.proofs.line.near_calls.Goals as goal
 
 pub returns-clause-requests : goal.returns-clause-requests

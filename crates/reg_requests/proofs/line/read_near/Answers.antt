@@ -1,6 +1,6 @@
 use Rattle.std.proofs.Common.{◌∙◌, ap, map, subst, sym}
 use Rattle.std.specs.Prelude.{All}
-use Rattle.iscc_header.specs.Units.{IsUnit}
+use Rattle.iscc_header.specs.Unit64s.{IsUnit64}
 use Rattle.reg_model.specs.declared.call.Call.TheVariants as calls
 use Rattle.reg_requests.proofs.line.read_near.Goals as goal
 
@@ -16,5 +16,5 @@ returns-clause-means c =
 
 pub returns-clause-requests : goal.returns-clause-requests
 returns-clause-requests c =
-    let valid = subst (All IsUnit) (sym c.as_slice.ensures.value) c.in_ok-units.ensures.range in
+    let valid = subst (All IsUnit64) (sym c.as_slice.ensures.value) c.in_ok-units.ensures.range in
     (c.near_calls.ensures.requests valid c.in_ok-radius.ensures.1, c.near_calls.ensures.few)

@@ -1,7 +1,7 @@
 use Rattle.std.proofs.Common.{refl, sym, ◌∙◌, ap, subst, arith}
 use Rattle.reg_model.specs.declared.call.Call.TheVariants.{Show}
 use Rattle.reg_model.specs.Replies.{shown}
-use Rattle.reg_model.specs.Registry.{IsCurrent}
+use Rattle.reg_model.specs.inner.Current.{IsCurrent}
 use Rattle.reg_model.proofs.Rising.{at_inside}
 use Rattle.reg_model.proofs.LiveSteps.{current_rising}
 use Rattle.reg_model.proofs.PlainSteps.{serves_same, live_at_place}

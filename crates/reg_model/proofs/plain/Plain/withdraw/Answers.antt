@@ -1,6 +1,7 @@
 use Rattle.std.proofs.Common.{◌≡◌, ◌<◌, length, subst, rules, arith}
-use Rattle.reg_model.specs.Registry.{IsCurrent}
+use Rattle.reg_model.specs.inner.Current.{IsCurrent}
 use Rattle.reg_model.proofs.Rising.{at_inside}
+use Rattle.reg_model.specs.Opening.{opening_of}
 use Rattle.reg_model.proofs.LiveSteps.{current_rising, current_withdraw}
 use Rattle.reg_model.proofs.PlainSteps.{withdraw_absent, withdraw_full, withdraw_done}
 use Rattle.reg_model.proofs.plain.Plain.withdraw.Goals as goal
@@ -15,7 +16,7 @@ pub invariant_of-self : goal.invariant_of-self
 invariant_of-self c =
     let inside = c.self.inside in
     let log_room : length inside.log.items < inside.sizes.log = search rules in
-    let current = current_withdraw inside.sizes (record { base = inside.base; list = inside.carried.items }) inside.log.items inside.live.items inside.withdrawn c.args.id c.in-Some.place c.self.invariant.0 log_room
+    let current = current_withdraw inside.sizes (opening_of inside.base inside.carried.items) inside.log.items inside.live.items inside.withdrawn c.args.id c.in-Some.place c.self.invariant.0 log_room
     (rw (← c.deref.ensures.value) c.in-Some.ensures.found) in
     (rw (c.push_within.ensures.items, c.remove.ensures.items) current, omega (arith, c.push_within.ensures.capacity, c.self.invariant.1), omega (arith, c.remove.ensures.capacity, c.self.invariant.2))
 

@@ -1,4 +1,4 @@
--- The text of a line is taken as a code exactly where it stands for one.
+-- The text of a line is taken as an ISCC exactly where it stands for one.
 use Rattle.std.proofs.Common.{◌≡◌, ℕ, List, [], ◌∷◌, map, true, Some, None, Ok, Err, refl, sym, ◌∙◌, ap, subst, inl, inr}
 use Rattle.std.specs.List.{filter_map}
 use Rattle.std.proofs.lemmas.Bool.{eqb-true, false≢true}
@@ -13,7 +13,7 @@ use Rattle.reg_requests.specs.declared.items.BadLine.TheVariants as bad
 use Rattle.reg_requests.specs.declared.items.Line.{Line}
 use Rattle.reg_requests.specs.declared.items.Line.TheVariants as lines
 use Rattle.reg_requests.specs.Requests.{Request, Declare, Withdraw, Near, Show, Count, After, Instance, request_of, is_skipped, TextMeans, RequestMeans, ReadsWords}
-use Rattle.reg_requests.specs.TakenCodes.{code_text, HasCodeText, unit_in, AsksForCode, AreCallsOf, TakesCode}
+use Rattle.reg_requests.specs.TakenIsccs.{asked_text, HasIsccText, unit_in, AsksForIscc, AreCallsOf, TakesIscc}
 
 -- the units that calls were made of
 declared_units : (units : List Unit64) → filter_map unit_in (map calls.Declare units) ≡ units
@@ -24,7 +24,7 @@ asked_units : (radius : ℕ) (units : List Unit64) → filter_map unit_in (map (
 asked_units radius [] = refl
 asked_units radius (unit ∷ units) = ap (λ rest. unit ∷ rest) (asked_units radius units)
 
--- a text that stands for no code
+-- a text that stands for no ISCC
 abbrev NoCode : List ℕ → Type 0
 NoCode text = (iscc : Iscc) → StandsFor text iscc → ⊥
 
@@ -38,7 +38,7 @@ no_code : (text : List ℕ) (units : ArrayVec Unit64) → NoCode text → TextMe
 no_code text units none means = none means.0 means.1
 
 -- a refusal of the request
-refused_why : (request : Request) (text : List ℕ) (why : BadLine) → code_text request ≡ Some text → NoCode text → RequestMeans (Some request) (Err why) → why ≡ bad.Text
+refused_why : (request : Request) (text : List ℕ) (why : BadLine) → asked_text request ≡ Some text → NoCode text → RequestMeans (Some request) (Err why) → why ≡ bad.Text
 refused_why (Declare given) text why e none means = text_fault given why (subst NoCode (let same : text ≡ given = cc in same) none) means
 refused_why (Near given number) text why e none (inl means) = text_fault given why (subst NoCode (let same : text ≡ given = cc in same) none) means
 refused_why (Near given number) text why e none (inr means) = absurd (no_code given means.0 (subst NoCode (let same : text ≡ given = cc in same) none) means.1)
@@ -48,7 +48,7 @@ refused_why Count text why e none means = absurd (cc)
 refused_why (After point) text why e none means = absurd (cc)
 refused_why (Instance digits) text why e none means = absurd (cc)
 
-stands_for_none : (request : Request) (text : List ℕ) → code_text request ≡ Some text → RequestMeans (Some request) (Err bad.Text) → NoCode text
+stands_for_none : (request : Request) (text : List ℕ) → asked_text request ≡ Some text → RequestMeans (Some request) (Err bad.Text) → NoCode text
 stands_for_none (Declare given) text e means = subst NoCode (let same : given ≡ text = cc in same) means
 stands_for_none (Near given number) text e (inl means) = subst NoCode (let same : given ≡ text = cc in same) means
 stands_for_none (Near given number) text e (inr means) = absurd means.2
@@ -59,20 +59,20 @@ stands_for_none (After point) text e means = absurd (cc)
 stands_for_none (Instance digits) text e means = absurd (cc)
 
 -- the calls of the request
-calls_of_code : (request : Request) (text : List ℕ) (list : ArrayVec Call) → code_text request ≡ Some text → RequestMeans (Some request) (Ok list) → AsksForCode text list.items
-calls_of_code (Declare given) text list e means =
+calls_of_iscc : (request : Request) (text : List ℕ) (list : ArrayVec Call) → asked_text request ≡ Some text → RequestMeans (Some request) (Ok list) → AsksForIscc text list.items
+calls_of_iscc (Declare given) text list e means =
     let same : given ≡ text = cc in
     let code = means.1 in
     (code.0, subst (λ t. StandsFor t code.0) same code.1, code.2 ∙ ap Some (sym (declared_units means.0.items) ∙ ap (filter_map unit_in) (sym means.2)))
-calls_of_code (Near given number) text list e means =
+calls_of_iscc (Near given number) text list e means =
     let same : given ≡ text = cc in
     let code = means.2 in
     (code.0, subst (λ t. StandsFor t code.0) same code.1, code.2 ∙ ap Some (sym (asked_units means.1 means.0.items) ∙ ap (filter_map unit_in) (sym means.4)))
-calls_of_code (Withdraw id) text list e means = absurd (cc)
-calls_of_code (Show id) text list e means = absurd (cc)
-calls_of_code Count text list e means = absurd (cc)
-calls_of_code (After point) text list e means = absurd (cc)
-calls_of_code (Instance digits) text list e means = absurd (cc)
+calls_of_iscc (Withdraw id) text list e means = absurd (cc)
+calls_of_iscc (Show id) text list e means = absurd (cc)
+calls_of_iscc Count text list e means = absurd (cc)
+calls_of_iscc (After point) text list e means = absurd (cc)
+calls_of_iscc (Instance digits) text list e means = absurd (cc)
 
 -- a request isn't skipped
 kept_request : (words : List (List ℕ)) (request : Request) → request_of words ≡ Some request → is_skipped words ≡ true → ⊥
@@ -84,21 +84,21 @@ kept_request ((first ∷ word) ∷ words) request e skip =
     let both : Some request ≡ None = sym e ∙ none in
     cc
 
-read_refused : (words : List (List ℕ)) (text : List ℕ) (read : Line) (request : Request) → request_of words ≡ Some request → code_text request ≡ Some text → ReadsWords words read → NoCode text → read ≡ lines.Bad bad.Text
+read_refused : (words : List (List ℕ)) (text : List ℕ) (read : Line) (request : Request) → request_of words ≡ Some request → asked_text request ≡ Some text → ReadsWords words read → NoCode text → read ≡ lines.Bad bad.Text
 read_refused words text lines.Skip request is e reads none = absurd (kept_request words request is reads)
 read_refused words text (lines.Bad why) request is e reads none =
     ap (λ w. lines.Bad w) (refused_why request text why e none (subst (λ r. RequestMeans r (Err why)) is reads.1))
 read_refused words text (lines.Calls list) request is e reads none =
-    let code = calls_of_code request text list e (subst (λ r. RequestMeans r (Ok list)) is reads.1) in
+    let code = calls_of_iscc request text list e (subst (λ r. RequestMeans r (Ok list)) is reads.1) in
     absurd (none code.0 code.1)
 
-read_taken : (words : List (List ℕ)) (text : List ℕ) (read : Line) (request : Request) → request_of words ≡ Some request → code_text request ≡ Some text → ReadsWords words read → AreCallsOf text read
+read_taken : (words : List (List ℕ)) (text : List ℕ) (read : Line) (request : Request) → request_of words ≡ Some request → asked_text request ≡ Some text → ReadsWords words read → AreCallsOf text read
 read_taken words text lines.Skip request is e reads = tt
 read_taken words text (lines.Bad why) request is e reads = tt
-read_taken words text (lines.Calls list) request is e reads = calls_of_code request text list e (subst (λ r. RequestMeans r (Ok list)) is reads.1)
+read_taken words text (lines.Calls list) request is e reads = calls_of_iscc request text list e (subst (λ r. RequestMeans r (Ok list)) is reads.1)
 
-pub takes_code : (words : List (List ℕ)) (text : List ℕ) (read : Line) → HasCodeText words text → ReadsWords words read → TakesCode text read
-takes_code words text read has reads =
+pub takes_iscc : (words : List (List ℕ)) (text : List ℕ) (read : Line) → HasIsccText words text → ReadsWords words read → TakesIscc text read
+takes_iscc words text read has reads =
     let request = has.0 in
     record {
       refused = (

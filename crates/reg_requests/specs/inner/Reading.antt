@@ -6,9 +6,10 @@ use Rattle.reg_requests.specs.declared.items.BadLine.{BadLine}
 use Rattle.reg_requests.specs.declared.items.BadLine.TheVariants as bad
 use Rattle.reg_requests.specs.declared.items.Line.{Line}
 use Rattle.reg_requests.specs.declared.items.Item.{Item}
-use Rattle.reg_requests.specs.Requests.{NumberMeans, ReadsLine, IsRequest, items_of, calls_of}
+use Rattle.reg_requests.specs.Requests.{NumberMeans, ReadsLine, items_of, calls_of}
+use Rattle.reg_model.specs.Calls.{IsRequest}
 
--- calls that a line may ask for, and no more than a code has units
+-- calls that a line may ask for, and no more than an ISCC has units
 abbrev pub AreRequests : ArrayVec Call → Type 0
 AreRequests list = All IsRequest list.items × (length list.items ≤ 5)
 
