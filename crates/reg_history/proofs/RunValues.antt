@@ -10,7 +10,7 @@ use Rattle.std.proofs.lemmas.List.Sums.{length-filter, count_by-le-length}
 use Rattle.std.proofs.lemmas.Slice.Zip.{length-zip}
 use Rattle.iscc_header.specs.declared.unit.Unit64.{Unit64}
 use Rattle.iscc_header.specs.Bits.{bits_of, differs, distance}
-use Rattle.iscc_header.specs.Units.{IsUnit}
+use Rattle.iscc_header.specs.Unit64s.{IsUnit64}
 use Rattle.iscc_header.proofs.BitLists.{length-bits_of}
 use Rattle.reg_model.specs.declared.update.Update.{Update}
 use Rattle.reg_model.specs.declared.update.Update.TheVariants.{Decl, Wd}
@@ -29,14 +29,14 @@ use Rattle.reg_model.specs.Replies.{is_near, hit_of, AreHits, shown, Replies}
 use Rattle.reg_model.specs.Rows.{update_of, log_of, MayFollow, EachAfter}
 use Rattle.reg_model.specs.Runs.{RoundRows, IsLawfulRound}
 use Rattle.reg_model.proofs.RowSteps.{log_of-push}
-use Rattle.reg_requests.specs.Requests.{IsRequest}
-use Rattle.reg_history.specs.Values.{IsDeclaredValue, IsHitValue, IsReplyValue, IsRowValue}
+use Rattle.reg_model.specs.Calls.{IsRequest}
+use Rattle.reg_history.specs.lines.Values.{IsDeclaredValue, IsHitValue, IsReplyValue, IsRowValue}
 
 -- ---- declarations
 
 -- the update declares a unit of 64 bits, or it withdraws
 abbrev IsUpdateValue : Update → Type 0
-IsUpdateValue (Decl unit) = IsUnit unit
+IsUpdateValue (Decl unit) = IsUnit64 unit
 IsUpdateValue (Wd id) = Unit {0}
 
 -- the declarations of a log whose ids are in range
@@ -109,7 +109,7 @@ reply_value limits opening log (calls.Declare unit) (replies.Full (Entries given
 reply_value limits opening log (calls.Withdraw id) (replies.Withdrawn other) small value served = omega (arith, served.0, value)
 reply_value limits opening log (calls.Withdraw id) (replies.Absent other) small value served = omega (arith, served.0, value)
 reply_value limits opening log (calls.Withdraw id) (replies.Full Log) small value served = tt
-reply_value limits opening log (calls.Near unit radius) (replies.Hits hits) small value served = hits_values (live opening log) unit radius hits small.live served
+reply_value limits opening log (calls.Near unit radius) (replies.Hits hits) small value served = hits_values (live opening log) unit radius hits small.live served.1
 reply_value limits opening log (calls.Show id) reply small value served =
     subst IsReplyValue (sym served) (shown_value id (live_at opening log id) value (found IsDeclaredValue (λ d. d.id == id) (live opening log) (recursion_from_All IsDeclaredValue (live opening log) small.live)))
 reply_value limits opening log calls.Count reply small value served =

@@ -1,5 +1,5 @@
 -- The one text of a run of rounds.
-use Rattle.std.specs.Prelude.{◌≡◌, ℕ, ◌+◌, List, [], ◌∷◌, ◌++◌, length, sum_by, codes}
+use Rattle.std.specs.Prelude.{ℕ, ◌+◌, List, [], ◌∷◌, ◌++◌, length, sum_by, codes}
 use Rattle.std.specs.List.{flat_map}
 use Rattle.std.specs.Fmt.{decimal}
 use Rattle.iscc_text.specs.UnitText.{unit_text}
@@ -7,7 +7,7 @@ use Rattle.reg_model.specs.declared.update.Declared.{Declared}
 use Rattle.reg_model.specs.declared.reply.Row.{Row}
 use Rattle.reg_model.specs.Opening.{Opening}
 use Rattle.reg_model.specs.Limits.{Limits}
-use Rattle.reg_model.specs.Runs.{RoundRows, next_opening, closing, IsHistory}
+use Rattle.reg_model.specs.Runs.{RoundRows, next_opening, closing}
 use Rattle.reg_requests.specs.Lines.{line, spaced, call_text, reply_text, kind_of}
 
 -- a declaration that is carried into the first round
@@ -53,7 +53,3 @@ history_text opening rounds =
     ++ flat_map carry_line opening.list
     ++ rounds_text 0 opening rounds
     ++ end_line (sum_by (λ round. length round.rows) rounds) (length (closing opening rounds).list)
-
--- the text is that of some history
-abbrev pub IsHistoryText : List ℕ → Type 0
-IsHistoryText text = (opening : Opening) × (rounds : List RoundRows) × IsHistory opening rounds × (text ≡ history_text opening rounds)

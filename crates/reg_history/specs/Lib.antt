@@ -1,12 +1,6 @@
 pub mod History
-pub mod Values
-pub mod Laws
 pub mod Rounds
-pub mod Printing
-pub mod HistoryLines
-pub mod Checking
-pub mod LiveSets
-pub mod Ledgers
-pub mod Serving
-pub mod Bytes
-pub mod CheckSteps
+pub mod Laws
+pub mod lines
+pub mod check
+pub mod inner

@@ -2,18 +2,22 @@ ghost use Rattle.std.specs.Prelude.{◌≡◌, ◌+◌, ◌<◌, ◌≤◌, ◌^
 ghost use Rattle.iscc_header.specs.declared.unit.Unit64.{Unit64 as AUnit64};
 ghost use Rattle.reg_model.specs.declared.call.Call.TheVariants as calls;
 ghost use Rattle.reg_model.specs.declared.reply.Reply.TheVariants as replies;
+ghost use Rattle.reg_model.specs.Calls.{IsRequest};
 ghost use Rattle.reg_model.specs.Live.{live, opening_after, IsLive};
-ghost use Rattle.reg_model.specs.Opening.{IsOpening};
+ghost use Rattle.reg_model.specs.Opening.{IsOpening, opening_of};
 ghost use Rattle.reg_model.specs.Registry.{Registry};
 ghost use Rattle.reg_model.specs.Replies.{AllEntriesHeld, Replies};
-ghost use Rattle.reg_history.specs.declared.told.ToldReply.TheVariants as told_replies;
-ghost use Rattle.reg_history.specs.declared.told.ToldHit.{ToldHit as AToldHit};
-ghost use Rattle.reg_history.specs.HistoryLines.{hit_in, reply_in, IsToldReplyValue};
-ghost use Rattle.reg_history.specs.Checking.{HasKind};
-ghost use Rattle.reg_history.specs.Ledgers.{Keeps, MayAdd, point_of};
+ghost use Rattle.reg_history.specs.declared.lines.told.ToldReply.TheVariants as told_replies;
+ghost use Rattle.reg_history.specs.declared.lines.told.ToldHit.{ToldHit as AToldHit};
+ghost use Rattle.reg_history.specs.lines.HistoryLines.{hit_in, reply_in, IsToldReplyValue};
+ghost use Rattle.reg_history.specs.check.Checking.{HasKind};
+ghost use Rattle.reg_history.specs.inner.Ledgers.{Keeps, MayAdd, point_of};
 
-use crate::live::LiveSet;
-use crate::told::{ToldHit, ToldReply};
+pub(crate) mod kind_list;
+pub(crate) mod live;
+
+use crate::ledger::live::LiveSet;
+use crate::lines::told::{ToldHit, ToldReply};
 use iscc_header::{NoMemory, Unit64};
 use reg_model::{Call, Declared, FullCause, Hit, Reply, Sizes, Update};
 use std::alloc::Global;
@@ -34,7 +38,7 @@ pub(crate) struct Ledger {
 }
 
 impl Model for Ledger {
-    ghost use Rattle.reg_history.specs.Ledgers.{LedgerParts, IsLedger};
+    ghost use Rattle.reg_history.specs.inner.Ledgers.{LedgerParts, IsLedger};
 
     ghost Value = { LedgerParts };
 
@@ -66,10 +70,10 @@ impl Ledger {
         base: u64,
         carried: &[Declared],
     ) -> Result<Ledger, NoMemory>
-        requires opens { IsOpening (record { base = base; list = carried.now }) }
+        requires opens { IsOpening (opening_of base carried.now) }
         requires room { length carried.now ≤ sizes.entries }
         requires ids { base + sizes.log ≤ 2 ^ 34 }
-        ensures { IfOk result (λ ledger. Keeps ledger (record { limits = sizes; opening = record { base = base; list = carried.now }; log = [] })) }
+        ensures { IfOk result (λ ledger. Keeps ledger (record { limits = sizes; opening = opening_of base carried.now; log = [] })) }
     {
         let live = LiveSet::of(alloc, carried)?;
         Ok(Ledger {
@@ -82,7 +86,7 @@ impl Ledger {
         })
     }
 
-    /// Begins the next round, with what is live. Takes no memory.
+    /// Begins the next round, with what is live.
     pub(crate) fn reopen(&mut self, sizes: Sizes)
         requires { point_of self.old + sizes.log ≤ 2 ^ 34 }
         ensures { (r : Registry) → Keeps self.old r → length (live r.opening r.log) ≤ sizes.entries
@@ -152,7 +156,7 @@ impl Ledger {
         call: &Call,
         reply: &ToldReply,
     ) -> Result<bool, NoMemory>
-        ensures { IfOk result (λ stands. (r : Registry) → Keeps self.now r → IsToldReplyValue reply.now
+        ensures { IfOk result (λ stands. (r : Registry) → Keeps self.now r → IsRequest call.now → IsToldReplyValue reply.now
             → IsTrue stands ↔ (Replies r.limits r.opening r.log call.now (reply_in reply.now) × HasKind call.now reply.now)) }
     {
         match reply {
@@ -163,7 +167,7 @@ impl Ledger {
 
     // Whether the call is a query with these hits.
     fn hits_stand(&self, alloc: Global, call: &Call, told: &[ToldHit]) -> Result<bool, NoMemory>
-        ensures { IfOk result (λ stands. (r : Registry) → Keeps self.now r
+        ensures { IfOk result (λ stands. (r : Registry) → Keeps self.now r → IsRequest call.now
             → IsTrue stands ↔ (Replies r.limits r.opening r.log call.now (replies.Hits (map hit_in told.now)) × HasKind call.now (told_replies.Hits told.now))) }
     {
         let Call::Near(unit, radius) = *call else {

@@ -1,16 +1,17 @@
-ghost use Rattle.std.specs.Prelude.{◌≡◌, ◌∷◌, ◌++◌, ◌≤◌, ◌+◌, ◌-◌, ◌^◌, ◌<◌, List, OnOk, IfOk, All, IsSome, Some, length};
+ghost use Rattle.std.specs.Prelude.{◌≡◌, ◌∷◌, ◌++◌, ◌≤◌, ◌+◌, ◌-◌, ◌^◌, ◌<◌, List, OnOk, OnErr, IfOk, All, IsSome, Some, length};
 ghost use Rattle.std.specs.List.{flat_map, filter_map};
 ghost use Rattle.reg_model.specs.declared.reply.Row.{Row as ARow};
 ghost use Rattle.reg_model.specs.Merge.{AreAccounts, row_at};
 ghost use Rattle.reg_model.specs.Rows.{IsMerge};
 ghost use Rattle.reg_model.specs.Runs.{RoundRows};
 ghost use Rattle.reg_model.specs.Opening.{Opening};
+ghost use Rattle.reg_requests.specs.inner.Printing.{Grows};
 ghost use Rattle.reg_history.specs.History.{carry_line, round_line, row_line, end_line, history_text};
-ghost use Rattle.reg_history.specs.HistoryLines.{told_limits};
+ghost use Rattle.reg_history.specs.lines.HistoryLines.{told_limits};
 ghost use Rattle.reg_history.specs.Rounds.{IsRoundOf, AreRoundsOf, IsRunOf};
-ghost use Rattle.reg_history.specs.Printing.{PrintsRounds};
+ghost use Rattle.reg_history.specs.inner.Printing.{PrintsRounds};
 
-use crate::told::ToldRound;
+use crate::lines::told::ToldRound;
 use iscc_header::NoMemory;
 use iscc_text::print_unit;
 use reg_model::{Accounts, Carried, Declared, Place, Round, Row, Sizes, merge};
@@ -31,7 +32,8 @@ pub fn print_history(
     Ok(text)
 }
 
-/// Appends the text of a history. Without memory, pieces of it may be left.
+/// Appends the text of a history: of a run of rounds, the first of which began with what is carried. Without memory nothing
+/// is appended.
 pub fn append_history(
     alloc: Global,
     carried: &Carried,
@@ -39,8 +41,30 @@ pub fn append_history(
     out: &mut Vec<u8>,
 ) -> Result<(), NoMemory>
     requires { IsRunOf carried.now rounds.now }
-    ensures { OnOk result ((rows : List RoundRows) → AreRoundsOf carried.now rounds.now rows
+    ensures ok { OnOk result ((rows : List RoundRows) → AreRoundsOf carried.now rounds.now rows
         → out.new.items ≡ out.old.items ++ history_text carried.now rows) }
+    ensures err { OnErr result (out.new.items ≡ out.old.items) }
+{
+    let before = out.len();
+    let done = print_whole(alloc, carried, rounds, out);
+    if done.is_err() {
+        out.truncate(before);
+    }
+    done
+}
+
+// The functions below leave pieces behind where memory is wanting.
+
+fn print_whole(
+    alloc: Global,
+    carried: &Carried,
+    rounds: &[Round],
+    out: &mut Vec<u8>,
+) -> Result<(), NoMemory>
+    requires { IsRunOf carried.now rounds.now }
+    ensures ok { OnOk result ((rows : List RoundRows) → AreRoundsOf carried.now rounds.now rows
+        → out.new.items ≡ out.old.items ++ history_text carried.now rows) }
+    ensures err { OnErr result (Grows out.old.items out.new.items) }
 {
     print_word(b"iscc-history 1\n", out)?;
     print_carried(carried.list(), out)?;
@@ -50,7 +74,8 @@ pub fn append_history(
 }
 
 fn print_carried(list: &[Declared], out: &mut Vec<u8>) -> Result<(), NoMemory>
-    ensures { OnOk result (out.new.items ≡ out.old.items ++ flat_map carry_line list.now) }
+    ensures ok { OnOk result (out.new.items ≡ out.old.items ++ flat_map carry_line list.now) }
+    ensures err { OnErr result (Grows out.old.items out.new.items) }
 {
     for declared in list {
         print_declared(declared, out)?;
@@ -59,7 +84,8 @@ fn print_carried(list: &[Declared], out: &mut Vec<u8>) -> Result<(), NoMemory>
 }
 
 pub(crate) fn print_declared(declared: &Declared, out: &mut Vec<u8>) -> Result<(), NoMemory>
-    ensures { OnOk result (out.new.items ≡ out.old.items ++ carry_line declared.now) }
+    ensures ok { OnOk result (out.new.items ≡ out.old.items ++ carry_line declared.now) }
+    ensures err { OnErr result (Grows out.old.items out.new.items) }
 {
     print_word_number(b"carry ", declared.id, out)?;
     print_word(b" ", out)?;
@@ -76,8 +102,9 @@ fn print_rounds<'a>(
     out: &mut Vec<u8>,
 ) -> Result<(u64, &'a Carried), NoMemory>
     requires { IsRunOf carried.now rounds.now }
-    ensures { IfOk result (λ pair. (rows : List RoundRows) → AreRoundsOf carried.now rounds.now rows
+    ensures ok { IfOk result (λ pair. (rows : List RoundRows) → AreRoundsOf carried.now rounds.now rows
         → PrintsRounds carried.now rows out.old.items out.new.items pair.0 pair.1.now) }
+    ensures grows { Grows out.old.items out.new.items }
 {
     let mut count: u64 = 0;
     let mut left = carried;
@@ -99,6 +126,7 @@ fn print_round(
     ensures text { IfOk result (λ count. (rows : List ARow) → IsMerge round.now.accounts rows
         → out.new.items ≡ out.old.items ++ (round_line number round.now.base round.now.sizes ++ flat_map row_line rows)) }
     ensures count { IfOk result (λ count. (rows : List ARow) → IsMerge round.now.accounts rows → count ≡ length rows) }
+    ensures grows { Grows out.old.items out.new.items }
 {
     print_round_line(number, round.base, &round.sizes, out)?;
     let order = merge(alloc, &round.accounts)?;
@@ -112,7 +140,8 @@ fn print_round_line(
     sizes: &Sizes,
     out: &mut Vec<u8>,
 ) -> Result<(), NoMemory>
-    ensures { OnOk result (out.new.items ≡ out.old.items ++ round_line number base sizes.now) }
+    ensures ok { OnOk result (out.new.items ≡ out.old.items ++ round_line number base sizes.now) }
+    ensures err { OnErr result (Grows out.old.items out.new.items) }
 {
     let told = ToldRound {
         number,
@@ -125,7 +154,8 @@ fn print_round_line(
 }
 
 pub(crate) fn print_told_round(told: &ToldRound, out: &mut Vec<u8>) -> Result<(), NoMemory>
-    ensures { OnOk result (out.new.items ≡ out.old.items ++ round_line told.now.number told.now.base (told_limits told.now)) }
+    ensures ok { OnOk result (out.new.items ≡ out.old.items ++ round_line told.now.number told.now.base (told_limits told.now)) }
+    ensures err { OnErr result (Grows out.old.items out.new.items) }
 {
     print_word_number(b"round ", told.number, out)?;
     print_word_number(b" base ", told.base, out)?;
@@ -138,7 +168,8 @@ pub(crate) fn print_told_round(told: &ToldRound, out: &mut Vec<u8>) -> Result<()
 // The rows at these places, in their order.
 fn print_rows(accounts: &Accounts, order: &[Place], out: &mut Vec<u8>) -> Result<(), NoMemory>
     requires { All (λ place. IsSome (row_at accounts.now place)) order.now }
-    ensures { OnOk result (out.new.items ≡ out.old.items ++ flat_map row_line (filter_map (row_at accounts.now) order.now)) }
+    ensures ok { OnOk result (out.new.items ≡ out.old.items ++ flat_map row_line (filter_map (row_at accounts.now) order.now)) }
+    ensures err { OnErr result (Grows out.old.items out.new.items) }
 {
     for place in order {
         print_row(row_of(accounts, place), out)?;
@@ -155,7 +186,8 @@ fn row_of<'a>(accounts: &'a Accounts, place: &Place) -> &'a Row
 }
 
 fn print_row(row: &Row, out: &mut Vec<u8>) -> Result<(), NoMemory>
-    ensures { OnOk result (out.new.items ≡ out.old.items ++ row_line row.now) }
+    ensures ok { OnOk result (out.new.items ≡ out.old.items ++ row_line row.now) }
+    ensures err { OnErr result (Grows out.old.items out.new.items) }
 {
     print_word_number(b"", row.session as u64, out)?;
     print_word_number(b".", row.number as u64, out)?;
@@ -169,7 +201,8 @@ fn print_row(row: &Row, out: &mut Vec<u8>) -> Result<(), NoMemory>
 }
 
 pub(crate) fn print_end_line(rows: u64, live: u64, out: &mut Vec<u8>) -> Result<(), NoMemory>
-    ensures { OnOk result (out.new.items ≡ out.old.items ++ end_line rows live) }
+    ensures ok { OnOk result (out.new.items ≡ out.old.items ++ end_line rows live) }
+    ensures err { OnErr result (Grows out.old.items out.new.items) }
 {
     print_word_number(b"end ", rows, out)?;
     print_word_number(b" live ", live, out)?;

@@ -1,5 +1,5 @@
 use crate::ledger::Ledger;
-use crate::told::{ToldHit, ToldHits, ToldReply};
+use crate::lines::told::{ToldHit, ToldHits, ToldReply};
 use iscc_header::{Kind, Unit64};
 use reg_model::{Call, Declared, FullCause, Reply, Sizes, Update};
 use std::alloc::Global;

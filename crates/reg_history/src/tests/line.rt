@@ -1,7 +1,7 @@
-use crate::line::{next_line, read_history_line};
-use crate::told::{HistoryLine, ToldHit, ToldHits, ToldReply, ToldRound, ToldRow};
-use iscc_header::{Kind, Unit64};
-use reg_model::{Call, Declared, FullCause, Items, Reply};
+use crate::lines::line::{next_line, read_history_line};
+use crate::lines::told::{HistoryLine, ToldHit, ToldHits, ToldReply, ToldRound, ToldRow};
+use iscc_header::{Items, Kind, Unit64};
+use reg_model::{Call, Declared, FullCause, Reply};
 use std::alloc::Global;
 use std::process::Abort;
 use std::test::Fail;

@@ -1,7 +1,7 @@
 ghost use Rattle.std.specs.Prelude.{IfOk};
 ghost use Rattle.reg_model.specs.Opening.{IsRising};
 
-use crate::live::LiveSet;
+use crate::ledger::live::LiveSet;
 use iscc_header::{Kind, Unit64};
 use reg_model::{Declared, Hit};
 use std::alloc::Global;

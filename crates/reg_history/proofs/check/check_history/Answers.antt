@@ -1,5 +1,5 @@
 use Rattle.std.proofs.Common.{◌<◌, ◌^◌, length, arith}
-use Rattle.reg_history.proofs.CheckOutcomes.{tells_history, tells_refusal, accepts_history, refuses_fault}
+use Rattle.reg_history.proofs.check.CheckOutcomes.{tells_history, tells_refusal, accepts_history, refuses_fault}
 use Rattle.reg_history.proofs.check.check_history.Goals as goal
 
 pub returns-clause-history : goal.returns-clause-history

@@ -1,4 +1,4 @@
-use Rattle.reg_history.proofs.RunsBack.{same_run}
+use Rattle.reg_history.proofs.lines.RunsBack.{same_run}
 use Rattle.reg_history.proofs.laws.a_history_text_has_one_run.Goals as goal
 
 pub returns : goal.returns

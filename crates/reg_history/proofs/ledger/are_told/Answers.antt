@@ -2,7 +2,7 @@ use Rattle.std.proofs.Common.{◌≡◌, length, refl, subst, rules, arith}
 use Rattle.std.specs.Iterator.Adapters.{zip_first, zip_second}
 use Rattle.std.specs.Slice.Iter.{iter_rest}
 use Rattle.std.proofs.lemmas.Slice.Zip.{zip_end}
-use Rattle.reg_history.proofs.ToldHits.{ToldBefore, told_all}
+use Rattle.reg_history.proofs.ledger.ToldHits.{ToldBefore, told_all}
 use Rattle.reg_history.proofs.ledger.are_told.Goals as goal
 
 pub returns : goal.returns

@@ -1,5 +1,5 @@
 use Rattle.std.proofs.Common.{length}
-use Rattle.reg_history.proofs.ToldHits.{ToldBefore}
+use Rattle.reg_history.proofs.ledger.ToldHits.{ToldBefore}
 use Rattle.reg_history.proofs.ledger.are_told.Given as goal
 
 -- the pairs that the loop has passed agree

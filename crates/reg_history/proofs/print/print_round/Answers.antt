@@ -5,7 +5,7 @@ use Rattle.std.proofs.lemmas.List.Elements.{recursion_from_All}
 use Rattle.reg_model.specs.Merge.{row_at}
 use Rattle.reg_model.proofs.OneMerge.{one_merge}
 use Rattle.reg_history.specs.History.{round_line, row_line}
-use Rattle.reg_history.proofs.Pieces.{filled_length}
+use Rattle.reg_history.proofs.print.Pieces.{filled_length}
 use Rattle.reg_history.proofs.print.print_round.Goals as goal
 
 pub returns-clause-text : goal.returns-clause-text
@@ -16,9 +16,9 @@ returns-clause-text c = λ rows merge.
     let head = round_line c.args.number c.args.round.now.base c.args.round.now.sizes in
     let same : filter_map (row_at accounts) places ≡ rows = one_merge accounts (filter_map (row_at accounts) places) rows c.requires order.merge merge in
     let printed : c.print_rows.new.out.items ≡ c.print_round_line.new.out.items ++ flat_map row_line (filter_map (row_at accounts) places) =
-    c.in_ok-print_rows.ensures ∙ ap (λ ps. c.print_round_line.new.out.items ++ flat_map row_line (filter_map (row_at accounts) ps)) c.as_slice.ensures in
+    c.in_ok-print_rows.ensures.ok ∙ ap (λ ps. c.print_round_line.new.out.items ++ flat_map row_line (filter_map (row_at accounts) ps)) c.as_slice.ensures in
     printed
-    ∙ ap (λ t. t ++ flat_map row_line (filter_map (row_at accounts) places)) c.in_ok-print_round_line.ensures
+    ∙ ap (λ t. t ++ flat_map row_line (filter_map (row_at accounts) places)) c.in_ok-print_round_line.ensures.ok
     ∙ append_assoc c.args.out.now.items head (flat_map row_line (filter_map (row_at accounts) places))
     ∙ ap (λ rs. c.args.out.now.items ++ (head ++ flat_map row_line rs)) same
 

@@ -1,10 +1,14 @@
 use Rattle.std.proofs.Common.{◌+◌, ◌<◌, sym, ◌∙◌, ap, subst}
-use Rattle.reg_history.specs.Ledgers.{point_of, Keeps, MayAdd}
-use Rattle.reg_history.proofs.LedgerSteps.{declares, withdraws_one, below_next, keeps_declare, keeps_withdraw}
+use Rattle.reg_history.specs.inner.Ledgers.{point_of, Keeps, MayAdd}
+use Rattle.reg_history.proofs.ledger.LedgerSteps.{declares, withdraws_one, below_next, keeps_declare, keeps_withdraw}
+use Rattle.reg_history.proofs.ledger.ByKind.{kinds_agree}
 use Rattle.reg_history.proofs.ledger.Ledger.add.Goals as goal
 
-pub push-requires : goal.push-requires
-push-requires c = below_next _ c.in-Decl.unit.kind c.point-id.result c.self.invariant (c.point-id.ensures.value ∙ ap point_of (sym c.self.view_is))
+pub push-requires-clause-kinds : goal.push-requires-clause-kinds
+push-requires-clause-kinds c = kinds_agree _ _ c.self.invariant.by_kind c.in-Decl.unit.kind
+
+pub push-requires-clause-ids : goal.push-requires-clause-ids
+push-requires-clause-ids c = below_next _ c.in-Decl.unit.kind c.point-id.result c.self.invariant (c.point-id.ensures.value ∙ ap point_of (sym c.self.view_is))
 
 pub invariant_of-self-in-Decl : goal.invariant_of-self-in-Decl
 invariant_of-self-in-Decl c =

@@ -1,8 +1,8 @@
 use Rattle.std.proofs.Common.{sym, subst}
 use Rattle.reg_model.specs.Live.{live}
 use Rattle.reg_model.proofs.Rising.{live_rising}
-use Rattle.reg_history.specs.Ledgers.{Keeps}
-use Rattle.reg_history.proofs.LookUps.{LooksUp, looked_up}
+use Rattle.reg_history.specs.inner.Ledgers.{Keeps}
+use Rattle.reg_history.proofs.ledger.LookUps.{LooksUp, looked_up}
 use Rattle.reg_history.proofs.ledger.Ledger.is_live.Goals as goal
 
 pub returns : goal.returns

@@ -1,6 +1,6 @@
 use Rattle.std.proofs.Common.{sym, subst}
-use Rattle.reg_history.specs.Ledgers.{Keeps}
-use Rattle.reg_history.proofs.LedgerSteps.{log_full}
+use Rattle.reg_history.specs.inner.Ledgers.{Keeps}
+use Rattle.reg_history.proofs.ledger.LedgerSteps.{log_full}
 use Rattle.reg_history.proofs.ledger.Ledger.is_log_full.Goals as goal
 
 pub returns : goal.returns

@@ -1,8 +1,8 @@
 use Rattle.std.proofs.Common.{sym, ◌∙◌, ap, subst, rules, arith}
 use Rattle.reg_model.specs.Limits.{IsInRange}
 use Rattle.reg_model.specs.Live.{live}
-use Rattle.reg_history.specs.Ledgers.{point_of, Keeps}
-use Rattle.reg_history.proofs.LedgerSteps.{keeps_reopen, reopens}
+use Rattle.reg_history.specs.inner.Ledgers.{point_of, Keeps}
+use Rattle.reg_history.proofs.ledger.LedgerSteps.{keeps_reopen, reopens}
 use Rattle.reg_history.proofs.ledger.Ledger.reopen.Goals as goal
 
 pub returns : goal.returns

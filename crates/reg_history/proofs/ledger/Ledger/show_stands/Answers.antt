@@ -2,8 +2,8 @@ use Rattle.std.proofs.Common.{sym, subst}
 use Rattle.std.proofs.lemmas.Bool.{true≢false}
 use Rattle.reg_model.specs.Live.{live}
 use Rattle.reg_model.proofs.Rising.{live_rising}
-use Rattle.reg_history.specs.Ledgers.{Keeps}
-use Rattle.reg_history.proofs.LookUps.{LooksUp, shown_is, live_told, absent_told}
+use Rattle.reg_history.specs.inner.Ledgers.{Keeps}
+use Rattle.reg_history.proofs.ledger.LookUps.{LooksUp, shown_is, live_told, absent_told}
 use Rattle.reg_history.proofs.ledger.Ledger.show_stands.Goals as goal
 
 pub returns-in-Some-Live : goal.returns-in-Some-Live

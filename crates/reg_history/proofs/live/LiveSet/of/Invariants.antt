@@ -1,7 +1,0 @@
-use Rattle.std.proofs.Common.{take}
-use Rattle.reg_history.specs.LiveSets.{AreByKind}
-use Rattle.reg_history.proofs.live.LiveSet.of.Given as goal
-
--- the set of what the loop has passed
-abbrev pub invariant-loop-declared : goal.invariant-loop-declared
-invariant-loop-declared l = AreByKind l.set (take l.declared-index l.list)

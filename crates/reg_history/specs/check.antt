@@ -1,0 +1,2 @@
+-- The check of a text.
+pub mod Checking

@@ -1,0 +1,3 @@
+-- Single lines of a history.
+pub mod Values
+pub mod HistoryLines
