@@ -11,6 +11,7 @@ pub struct FileShelf<'a, R> {
 }
 
 impl<'a, R> FileShelf<'a, R> {
+    /// The files that the runtime opens.
     pub fn new(rt: &'a R) -> FileShelf<'a, R> {
         FileShelf { rt, faults: 0 }
     }

@@ -8,6 +8,7 @@ pub struct OutSink<'a, P> {
 }
 
 impl<'a, P> OutSink<'a, P> {
+    /// The output that the runtime prints to.
     pub fn new(out: &'a P) -> OutSink<'a, P> {
         OutSink { out, faults: 0 }
     }

@@ -6,12 +6,12 @@ use Rattle.iscc_code.specs.Composites.{compose_fault}
 use Rattle.reg_model.proofs.RowSteps.{IfSome-weaker}
 use Rattle.reg_top.specs.declared.refusal.Refusal.{Refusal}
 use Rattle.reg_top.specs.declared.refusal.Refusal.TheVariants as refusals
-use Rattle.reg_top.specs.declared.shelf.FetchFault.{FetchFault}
-use Rattle.reg_top.specs.declared.shelf.FetchFault.TheVariants.{Missing, TooLong}
+use Rattle.reg_session.specs.declared.shelf.FetchFault.{FetchFault}
+use Rattle.reg_session.specs.declared.shelf.FetchFault.TheVariants.{Missing, TooLong}
 use Rattle.reg_top.specs.declared.status.Status.{Status}
 use Rattle.reg_top.specs.declared.status.Status.TheVariants as status
-use Rattle.reg_top.specs.Faults.{Quiet, Rose}
-use Rattle.reg_top.specs.Files.{Files}
+use Rattle.reg_session.specs.Faults.{Quiet, Rose}
+use Rattle.reg_session.specs.Files.{Files}
 use Rattle.reg_requests.specs.Lines.{line}
 use Rattle.reg_top.specs.SavedHistories.{HasLawfulHistory, HasFaultyHistory}
 use Rattle.reg_top.specs.CommandOutput.{IsOutput, Writes, WritesFront}
@@ -20,7 +20,7 @@ use Rattle.reg_top.specs.Words.Command.{Run, Explain, Compose, Instance, Check}
 use Rattle.reg_top.specs.Refusals.{Refuses, Accepts}
 use Rattle.reg_top.specs.Statuses.{HasNoForm, file_fault, StopsBy, IsStopStatus, IsFetched, IsGiven, status_number, statuses}
 use Rattle.reg_top.specs.FaultLines.{Tells, TellsStatus, status_text}
-use Rattle.reg_top.specs.Ends.{Answers, HasOneAnswer, Ends, IsOutcome}
+use Rattle.reg_top.specs.Ends.{Settles, HasOneAnswer, Ends, IsOutcome}
 use Rattle.reg_top.proofs.Forms.{one_form}
 use Rattle.reg_top.proofs.SavedLines.{saved_or_none}
 use Rattle.reg_top.proofs.Compositions.{clash, read_or_refused, same_units}
@@ -186,7 +186,7 @@ refused_texts command files before now taken after was faults status.Memory why 
 
 -- of one whose files are there and in limit, where no fetch failed
 refused_files : (command : Command) (map : Files) (before now : ℕ) (taken after : Option (List ℕ)) (was faults : ℕ) (end : Status) (why : Refusal)
-    → Ends command (Some map) before now taken after was faults end → (Answers end → HasOneAnswer command (Some map)) → file_fault map command ≡ None → Quiet before now
+    → Ends command (Some map) before now taken after was faults end → (Settles end → HasOneAnswer command (Some map)) → file_fault map command ≡ None → Quiet before now
     → Refuses command (Some map) why → (status_number end ≡ 10) ⊎ (status_number end ≡ 6)
 refused_files command map before now taken after was faults status.Done why ends one there quiet refuses =
     let writes : Writes command (Some map) taken after = ends.2 in absurd (accepts_not command map why (one tt) (accepted command (Some map) writes.0 writes.1) refuses)
@@ -200,7 +200,7 @@ refused_files command map before now taken after was faults (status.Refused othe
 refused_files command map before now taken after was faults status.Memory why ends one there quiet refuses = inr refl
 
 refused : (command : Command) (files : Option Files) (before now : ℕ) (taken after : Option (List ℕ)) (was faults : ℕ) (end : Status) (why : Refusal)
-    → Ends command files before now taken after was faults end → (Answers end → HasOneAnswer command files) → Refuses command files why → IsGiven command files before now
+    → Ends command files before now taken after was faults end → (Settles end → HasOneAnswer command files) → Refuses command files why → IsGiven command files before now
     → (status_number end ≡ 10) ⊎ (status_number end ≡ 6)
 refused command files before now taken after was faults end why ends one refuses (inl none) =
     refused_texts command files before now taken after was faults end why ends none refuses
@@ -210,7 +210,7 @@ refused command (Some map) before now taken after was faults end why ends one re
 
 -- files that are there and in limit, and no fault
 done : (command : Command) (map : Files) (before now : ℕ) (taken after : Option (List ℕ)) (was faults : ℕ) (end : Status)
-    → Ends command (Some map) before now taken after was faults end → (Answers end → HasOneAnswer command (Some map)) → Accepts command (Some map)
+    → Ends command (Some map) before now taken after was faults end → (Settles end → HasOneAnswer command (Some map)) → Accepts command (Some map)
     → file_fault map command ≡ None → Quiet before now → Quiet was faults → (status_number end ≡ 0) ⊎ (status_number end ≡ 6)
 done command map before now taken after was faults status.Done ends one takes there quiet calm = inl refl
 done command map before now taken after was faults status.Write ends one takes there quiet calm = absurd (not_quiet was faults calm ends.1)
@@ -259,7 +259,7 @@ stop_told words command (Some map) before now taken after was faults end fault f
     stopped command map before now taken after was faults end fault ends (subst (λ c. file_fault map c ≡ Some fault) (one_form words stops.0 command stops.1 form) stops.2) quiet
 
 all_done : (words : List (List ℕ)) (command : Command) (files : Option Files) (before now : ℕ) (taken after : Option (List ℕ)) (was faults : ℕ) (end : Status)
-    → Ends command files before now taken after was faults end → (Answers end → HasOneAnswer command files) → Accepts command files
+    → Ends command files before now taken after was faults end → (Settles end → HasOneAnswer command files) → Accepts command files
     → Quiet before now → Quiet was faults
     → IfSome files (λ map. file_fault map command ≡ None → (status_number end ≡ 0) ⊎ (status_number end ≡ 6))
 all_done words command None before now taken after was faults end ends one takes quiet calm = tt
@@ -295,7 +295,7 @@ module _ (words : List (List ℕ)) (command : Command) (files : Option Files) (b
       let so : EndsSo (status.Refused is.0) = subst EndsSo is.1 ends in
       (is.0, so.0)
 
-  pub outcome : IsForm words command → EndsSo end → (Answers end → HasOneAnswer command files) → IsOutcome words files before now taken after was faults (status_number end)
+  pub outcome : IsForm words command → EndsSo end → (Settles end → HasOneAnswer command files) → IsOutcome words files before now taken after was faults (status_number end)
   outcome form ends one = record {
     run = λ plan given e. inside _ _ files (writes (Run plan) form ends given e);
     explain = λ text given e. writes (Explain text) form ends given e;

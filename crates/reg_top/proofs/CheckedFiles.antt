@@ -4,16 +4,16 @@ use Rattle.std.specs.Prelude.{◌⊎◌, IfSome, IsSomeAnd}
 use Rattle.std.proofs.lemmas.Option.{same_Some}
 use Rattle.reg_model.proofs.RowSteps.{IfSome-weaker}
 use Rattle.reg_requests.specs.Lines.{line}
-use Rattle.reg_history.specs.declared.fault.CheckFault.{CheckFault}
-use Rattle.reg_history.specs.declared.fault.CheckWhy.{CheckWhy}
-use Rattle.reg_history.specs.declared.fault.CheckRefusal.{CheckRefusal}
-use Rattle.reg_history.specs.declared.fault.CheckRefusal.TheVariants as check_refusals
-use Rattle.reg_history.specs.declared.fault.Summary.{Summary}
-use Rattle.reg_history.specs.Checking.{IsHistoryOf, HasFault}
+use Rattle.reg_history.specs.declared.check.fault.CheckFault.{CheckFault}
+use Rattle.reg_history.specs.declared.check.fault.CheckWhy.{CheckWhy}
+use Rattle.reg_history.specs.declared.check.fault.CheckRefusal.{CheckRefusal}
+use Rattle.reg_history.specs.declared.check.fault.CheckRefusal.TheVariants as check_refusals
+use Rattle.reg_history.specs.declared.check.fault.Summary.{Summary}
+use Rattle.reg_history.specs.check.Checking.{IsHistoryOf, HasLineFault}
 use Rattle.reg_top.specs.declared.refusal.Refusal.TheVariants as refusals
 use Rattle.reg_top.specs.declared.status.Status.{Status}
 use Rattle.reg_top.specs.declared.status.Status.TheVariants as status
-use Rattle.reg_top.specs.Files.{Files}
+use Rattle.reg_session.specs.Files.{Files}
 use Rattle.reg_top.specs.SavedHistories.{IsSavedHistory, HasNoHistory, HasLawfulHistory, HasFaultyHistory, IsOneSided}
 use Rattle.reg_top.specs.SideOutput.{lawful_text}
 use Rattle.reg_top.specs.CommandOutput.{IsOutput}
@@ -29,11 +29,11 @@ absent_sided file none = λ rows live fault lawful faulty. saved_or_none file fa
 
 -- a text that is told as lawful has no fault
 pub lawful_sided : (file text : List ℕ) (result : Result Summary CheckRefusal) (summary : Summary) → IsSavedHistory file text
-    → ((number : ℕ) (why : CheckWhy) → HasFault text number why → (result ≡ Err (check_refusals.Fault (record { line = number; why = why }))) ⊎ (result ≡ Err check_refusals.NoMemory))
+    → ((number : ℕ) (why : CheckWhy) → HasLineFault text number why → (result ≡ Err (check_refusals.Fault (record { line = number; why = why }))) ⊎ (result ≡ Err check_refusals.NoMemory))
     → result ≡ Ok summary → IsOneSided file
 lawful_sided file text result summary saved refuses is = λ rows live fault lawful faulty.
     let same : faulty.text ≡ text = one_saved file faulty.text text faulty.saved saved in
-    elim (refuses fault.line fault.why (subst (λ t. HasFault t fault.line fault.why) same faulty.faulty)) [ inl other ↦ absurd (cc) | inr other ↦ absurd (cc) ]
+    elim (refuses fault.line fault.why (subst (λ t. HasLineFault t fault.line fault.why) same faulty.faulty)) [ inl other ↦ absurd (cc) | inr other ↦ absurd (cc) ]
 
 -- a text with a fault that is told is not lawful
 pub faulty_sided : (file text : List ℕ) (result : Result Summary CheckRefusal) (told : CheckFault) → IsSavedHistory file text

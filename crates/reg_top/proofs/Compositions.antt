@@ -13,7 +13,7 @@ use Rattle.iscc_code.specs.Units.{UnitParts}
 use Rattle.iscc_code.specs.Composites.{CodeParts}
 use Rattle.iscc_text.specs.declared.read.TextFault.{TextFault}
 use Rattle.iscc_text.specs.Texts.{StandsFor, HasTextFault}
-use Rattle.iscc_text.proofs.OneText.{one_reading, one_code}
+use Rattle.iscc_text.proofs.OneText.{one_reading, one_iscc}
 use Rattle.reg_top.specs.declared.refusal.WordFault.{WordFault}
 use Rattle.reg_top.specs.declared.refusal.WordFault.TheVariants as word_faults
 use Rattle.reg_top.specs.Refusals.{IsTextOf, HasWordFault, HasRefusedText}
@@ -77,10 +77,10 @@ clash text iscc fault stands h = true≢false (ap is_ok (one_reading text (Ok is
 -- a text of a unit has no fault
 unit_or_fault : (text : List ℕ) (unit : UnitParts) (why : WordFault) → IsTextOf text unit → HasWordFault text why → ⊥
 unit_or_fault text unit (word_faults.Text fault) is h = clash text (codes.Unit unit) fault is h
-unit_or_fault text unit word_faults.NotUnit is h = (let same : codes.Unit unit ≡ codes.Code h.0 = one_code text (codes.Unit unit) (codes.Code h.0) is h.1 in cc)
+unit_or_fault text unit word_faults.NotUnit is h = (let same : codes.Unit unit ≡ codes.Code h.0 = one_iscc text (codes.Unit unit) (codes.Code h.0) is h.1 in cc)
 
 same_unit : (text : List ℕ) (u v : UnitParts) → IsTextOf text u → IsTextOf text v → u ≡ v
-same_unit text u v h k = (let same : codes.Unit u ≡ codes.Unit v = one_code text (codes.Unit u) (codes.Unit v) h k in cc)
+same_unit text u v h k = (let same : codes.Unit u ≡ codes.Unit v = one_iscc text (codes.Unit u) (codes.Unit v) h k in cc)
 
 pub same_units : (texts : List (List ℕ)) (us vs : List UnitParts) → AllZip IsTextOf texts us → AllZip IsTextOf texts vs → us ≡ vs
 same_units [] [] [] h k = refl

@@ -2,10 +2,10 @@
 use Rattle.std.proofs.Common.{◌≡◌, ℕ, ◌<◌, ◌≤◌, true, false, List, [], ◌∷◌, length, Option, Some, None, refl, sym, ◌∙◌, ap, subst, arith, lit<}
 use Rattle.std.specs.Prelude.{IfSome, IsSomeAnd, nat_le, Contains}
 use Rattle.reg_model.proofs.RowSteps.{IfSome-weaker}
-use Rattle.reg_top.specs.declared.shelf.FetchFault.TheVariants.{Missing, TooLong}
+use Rattle.reg_session.specs.declared.shelf.FetchFault.TheVariants.{Missing, TooLong}
 use Rattle.reg_top.specs.declared.status.Status.{Status}
 use Rattle.reg_top.specs.declared.status.Status.TheVariants as status
-use Rattle.reg_top.specs.Files.{Files}
+use Rattle.reg_session.specs.Files.{Files}
 use Rattle.reg_requests.specs.Lines.{line}
 use Rattle.reg_top.specs.CommandOutput.{IsOutput}
 use Rattle.reg_top.specs.Words.{Command, fetched_names}

@@ -4,7 +4,7 @@ use Rattle.std.specs.Prelude.{All, slice_get, codes}
 use Rattle.std.proofs.lemmas.Option.{same_Some, none-some}
 use Rattle.reg_top.specs.declared.words.SideWord.{SideWord}
 use Rattle.reg_top.specs.declared.words.SideWord.TheVariants as side
-use Rattle.reg_top.specs.Words.{Command, IsRunOf, HasOneValue, HasTexts, IsValue, IsForm, IsSideCommand, side_text, plan_of}
+use Rattle.reg_top.specs.Words.{Command, HasOneFile, HasOneValue, HasTexts, IsValue, IsForm, IsSideCommand, side_text, plan_of}
 use Rattle.reg_top.specs.Words.Command.{Run, Explain, Compose, Instance, Check}
 use Rattle.reg_top.specs.Statuses.{HasNoForm}
 
@@ -41,7 +41,7 @@ second (x ∷ y ∷ words) = y
 same_value : (words : List (List ℕ)) (word a b : List ℕ) → HasOneValue words word a → HasOneValue words word b → a ≡ b
 same_value words word a b h k = ap second (sym h.words_are ∙ k.words_are)
 
-same_name : (words : List (List ℕ)) (a b : List ℕ) → IsRunOf words a → IsRunOf words b → a ≡ b
+same_name : (words : List (List ℕ)) (a b : List ℕ) → HasOneFile words a → HasOneFile words b → a ≡ b
 same_name words a b h k = ap second (sym h.words_are ∙ k.words_are)
 
 pub one_form : (words : List (List ℕ)) (a b : Command) → IsForm words a → IsForm words b → a ≡ b
@@ -55,7 +55,7 @@ one_form words a b h k =
 
 -- ---- words of no form, by their first word
 
-pub no_run : (words : List (List ℕ)) → ((name : List ℕ) → IsRunOf words name → ⊥) → (IsSideCommand words → ⊥) → HasNoForm words
+pub no_run : (words : List (List ℕ)) → ((name : List ℕ) → HasOneFile words name → ⊥) → (IsSideCommand words → ⊥) → HasNoForm words
 no_run words none other (Run plan) form = none form.0 form.1
 no_run words none other (Explain text) form = other (side.Explain, first_word words (Explain text) form)
 no_run words none other (Compose texts) form = other (side.Compose, first_word words (Compose texts) form)

@@ -6,7 +6,6 @@ pub mod OneRound
 pub mod Forms
 pub mod Endings
 pub mod Compositions
-pub mod NoFloats
 pub mod Causes
 pub mod SavedLines
 pub mod CheckedFiles

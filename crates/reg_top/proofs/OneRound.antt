@@ -9,23 +9,22 @@ use Rattle.std.proofs.lemmas.List.Elements.{All-nil, All-cons, filter_map-append
 use Rattle.reg_model.specs.declared.reply.Row.{Row}
 use Rattle.reg_model.specs.declared.call.Call.{Call}
 use Rattle.reg_model.specs.declared.round.Round.{Round}
-use Rattle.reg_model.specs.declared.update.Declared.{Declared}
-use Rattle.reg_model.specs.Opening.{Opening}
 use Rattle.reg_model.specs.Merge.{AreAccounts}
-use Rattle.reg_model.specs.Limits.{Limits}
+use Rattle.reg_model.specs.Limits.{Limits, usual_limits}
 use Rattle.reg_model.specs.Rows.{session_rows, IsLawful, IsMerge}
 use Rattle.reg_model.proofs.LawfulOrder.{lone_accounts, lone_merge}
 use Rattle.reg_history.specs.Rounds.{AreRoundsOf}
 use Rattle.reg_top.specs.LoneRounds.{IsLoneRound}
 use Rattle.reg_model.specs.Runs.{RoundRows, IsLawfulRound, nothing}
 use Rattle.reg_requests.specs.declared.items.Item.{Item}
-use Rattle.reg_top.specs.Files.{Files}
+use Rattle.reg_session.specs.Files.{Files}
 use Rattle.reg_requests.specs.Lines.{line, spaced}
-use Rattle.reg_requests.specs.Requests.{IsRequest, AreItems, call_in, calls_of}
+use Rattle.reg_requests.specs.Requests.{AreItems, call_in, calls_of}
+use Rattle.reg_model.specs.Calls.{IsRequest}
 use Rattle.reg_history.specs.History.{history_text}
-use Rattle.reg_top.specs.Words.{usual_limits, plan_of}
+use Rattle.reg_top.specs.Words.{plan_of}
 use Rattle.reg_top.specs.Output.{item_lines, MakesCalls, IsRunOutput}
-use Rattle.reg_history.specs.Values.{IsDeclaredValue, IsRowValue, IsRunValue}
+use Rattle.reg_history.specs.lines.Values.{IsDeclaredValue, IsRowValue, IsRunValue}
 use Rattle.reg_history.proofs.RunValues.{round_values}
 
 -- ---- the calls of a file
@@ -120,9 +119,3 @@ lone_run limits calls round lone = (
 pub lone_account : (limits : Limits) (calls : List Call) (round : Round) (accounts : List (List Row)) (rows : List Row) → (lone : IsLoneRound limits calls round) → accounts ≡ round.accounts
     → rows ≡ get_or accounts 0 rows → rows ≡ lone.rows
 lone_account limits calls round accounts rows lone same is = is ∙ ap (λ list. get_or list 0 rows) (same ∙ lone.account)
-
-pub opening_is : (opening : Opening) → opening.base ≡ 0 → opening.list ≡ [] → opening ≡ nothing
-opening_is opening base list = ap₂ opening_made base list
-  where
-    opening_made : ℕ → List Declared → Opening
-    opening_made b l = record { base = b; list = l }

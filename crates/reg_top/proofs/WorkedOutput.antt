@@ -12,7 +12,7 @@ use Rattle.reg_requests.proofs.WorkedLines.{file, wanted, file_items}
 use Rattle.reg_history.specs.History.{history_text}
 use Rattle.reg_top.specs.Words.{RoundPlan}
 use Rattle.reg_top.specs.Output.{IsRunOutput, MakesCalls}
-use Rattle.reg_history.specs.Values.{IsDeclaredValue, IsHitValue, IsRowValue, IsRunValue}
+use Rattle.reg_history.specs.lines.Values.{IsDeclaredValue, IsHitValue, IsRowValue, IsRunValue}
 
 abbrev pub output : List ℕ
 output =

@@ -2,7 +2,7 @@
 use Rattle.std.proofs.Common.{◌≡◌, ℕ, List, [], ◌++◌, take, drop, Option, Some, None, refl, sym, ◌∙◌, ap, subst, append_assoc, append-nil, arith}
 use Rattle.std.specs.Prelude.{IfSome}
 use Rattle.std.proofs.lemmas.List.{take-append-drop}
-use Rattle.reg_top.specs.Faults.{Rose, Quiet}
+use Rattle.reg_session.specs.Faults.{Rose, Quiet}
 use Rattle.reg_top.specs.Output.{TakesWhole, TakesPart}
 use Rattle.reg_top.specs.FaultLines.{Tells}
 

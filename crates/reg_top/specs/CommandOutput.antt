@@ -1,7 +1,7 @@
 -- What each command writes, and a front of it.
 use Rattle.std.specs.Prelude.{ℕ, List, Option, IfSome}
 use Rattle.reg_model.specs.Runs.{nothing}
-use Rattle.reg_top.specs.Files.{Files}
+use Rattle.reg_session.specs.Files.{Files}
 use Rattle.reg_top.specs.Words.{Command}
 use Rattle.reg_top.specs.Words.Command.{Run, Explain, Compose, Instance, Check}
 use Rattle.reg_top.specs.Output.{IsRunOutput, TakesWhole, TakesPart}

@@ -3,9 +3,9 @@ use Rattle.std.specs.Prelude.{◌≡◌, ◌≢◌, ℕ, ◌<◌, List, Contains
 use Rattle.reg_top.specs.declared.refusal.Refusal.TheVariants as refusals
 use Rattle.reg_top.specs.declared.status.Status.{Status}
 use Rattle.reg_top.specs.declared.status.Status.TheVariants as status
-use Rattle.reg_top.specs.declared.shelf.FetchFault.TheVariants.{Missing, TooLong}
-use Rattle.reg_top.specs.Faults.{Rose, Quiet}
-use Rattle.reg_top.specs.Files.{Files}
+use Rattle.reg_session.specs.declared.shelf.FetchFault.TheVariants.{Missing, TooLong}
+use Rattle.reg_session.specs.Faults.{Rose, Quiet}
+use Rattle.reg_session.specs.Files.{Files}
 use Rattle.reg_top.specs.SavedHistories.{HasNoHistory, HasFaultyHistory, IsOneSided}
 use Rattle.reg_top.specs.Output.{WritesRun, TakesWhole, TakesPart}
 use Rattle.reg_top.specs.SideOutput.{WritesExplanation, WritesComposition, WritesInstance, WritesCheck}
@@ -13,7 +13,7 @@ use Rattle.reg_top.specs.CommandOutput.{Writes, WritesFront}
 use Rattle.reg_top.specs.Words.{Command, RoundPlan, IsForm}
 use Rattle.reg_top.specs.Words.Command.{Run, Explain, Compose, Instance, Check}
 use Rattle.reg_top.specs.Refusals.{Refuses}
-use Rattle.reg_top.specs.Statuses.{Exactly, HasNoForm, IsStopStatus, IsFetched, IsRefusedStatus, IsDone, IsAnswered, statuses, file_fault}
+use Rattle.reg_top.specs.Statuses.{Exactly, HasNoForm, IsStopStatus, IsFetched, IsRefusedStatus, IsDone, IsGivenAnswer, statuses, file_fault}
 use Rattle.reg_top.specs.FaultLines.{Tells, TellsStatus, IsCommandLine}
 
 -- why the file with this name, of which this many bytes may be taken, gave none: with the counts of the shelf's faults
@@ -59,11 +59,11 @@ Ends command files before now taken after was faults status.Write = IsFetched co
 Ends command files before now taken after was faults other = Stops command files before now other × (text : List ℕ) × IsCommandLine command files other text × Tells taken after was faults text
 
 -- the status answers to what a command is given, by an output or by a refusal
-abbrev pub Answers : Status → Type 0
-Answers status.Done = Unit {0}
-Answers status.Write = Unit {0}
-Answers (status.Refused why) = Unit {0}
-Answers other = ⊥
+abbrev pub Settles : Status → Type 0
+Settles status.Done = Unit {0}
+Settles status.Write = Unit {0}
+Settles (status.Refused why) = Unit {0}
+Settles other = ⊥
 
 -- the history in the file that is checked isn't both lawful and faulty
 abbrev pub HasOneAnswer : Command → Option Files → Type 0
@@ -85,6 +85,6 @@ pub record IsOutcome (words : List (List ℕ)) (files : Option Files) (before no
   pub write : result ≡ 5 → Rose was faults
   pub known : Contains statuses result
   pub done : Quiet before now → Quiet was faults → IsDone result words files
-  pub answered : Quiet was faults → IsAnswered result words files
+  pub answered : Quiet was faults → IsGivenAnswer result words files
   pub cut_short : (command : Command) → IsForm words command → result ≡ 5 → WritesFront command files taken after
   pub told : result ≢ 0 → result ≢ 5 → TellsStatus words files result taken after was faults

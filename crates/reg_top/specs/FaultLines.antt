@@ -7,38 +7,38 @@ use Rattle.iscc_code.specs.declared.composing.ComposeFault.{ComposeFault}
 use Rattle.iscc_code.specs.declared.composing.ComposeFault.TheVariants as compose_faults
 use Rattle.iscc_text.specs.declared.read.TextFault.{TextFault}
 use Rattle.iscc_text.specs.declared.read.TextFault.TheVariants as text_faults
-use Rattle.reg_history.specs.declared.fault.CheckWhy.{CheckWhy}
-use Rattle.reg_history.specs.declared.fault.CheckWhy.TheVariants as line_faults
+use Rattle.reg_history.specs.declared.check.fault.CheckWhy.{CheckWhy}
+use Rattle.reg_history.specs.declared.check.fault.CheckWhy.TheVariants as line_faults
 use Rattle.reg_top.specs.declared.refusal.WordFault.{WordFault}
 use Rattle.reg_top.specs.declared.refusal.WordFault.TheVariants as word_faults
 use Rattle.reg_top.specs.declared.refusal.Refusal.{Refusal}
 use Rattle.reg_top.specs.declared.refusal.Refusal.TheVariants as refusals
 use Rattle.reg_top.specs.declared.status.Status.{Status}
 use Rattle.reg_top.specs.declared.status.Status.TheVariants as status
-use Rattle.reg_top.specs.Faults.{Quiet}
-use Rattle.reg_top.specs.Files.{Files}
+use Rattle.reg_session.specs.Faults.{Quiet}
+use Rattle.reg_session.specs.Files.{Files}
 use Rattle.reg_requests.specs.Lines.{line, spaced}
 use Rattle.reg_top.specs.Output.{TakesWhole, TakesPart}
 use Rattle.reg_top.specs.Words.{Command, IsForm, fetched_names}
 use Rattle.reg_top.specs.Refusals.{Refuses}
 use Rattle.reg_top.specs.Statuses.{status_number}
 
--- why bytes spell no code
-abbrev pub code_why : IsccFault → List ℕ
-code_why (codes_faults.Header fault) = codes "header"
-code_why codes_faults.MainType = codes "main type"
-code_why codes_faults.Version = codes "version"
-code_why codes_faults.Length = codes "length"
-code_why codes_faults.SubType = codes "sub type"
-code_why codes_faults.Short = codes "short"
-code_why codes_faults.Long = codes "long"
+-- why bytes encode no ISCC
+abbrev pub iscc_why : IsccFault → List ℕ
+iscc_why (codes_faults.Header fault) = codes "header"
+iscc_why codes_faults.MainType = codes "main type"
+iscc_why codes_faults.Version = codes "version"
+iscc_why codes_faults.Length = codes "length"
+iscc_why codes_faults.SubType = codes "sub type"
+iscc_why codes_faults.Short = codes "short"
+iscc_why codes_faults.Long = codes "long"
 
--- why a text stands for no code; a letter with its place
+-- why a text stands for no ISCC; a letter with its place
 abbrev pub text_why : TextFault → List ℕ
 text_why text_faults.Scheme = codes "scheme"
 text_why (text_faults.Letter at) = codes "letter " ++ decimal at
 text_why text_faults.Bits = codes "bits"
-text_why (text_faults.Iscc fault) = code_why fault
+text_why (text_faults.Iscc fault) = iscc_why fault
 
 -- why a text stands for no unit
 abbrev pub word_why : WordFault → List ℕ

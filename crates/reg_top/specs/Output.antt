@@ -8,12 +8,12 @@ use Rattle.reg_model.specs.Rows.{session_rows}
 use Rattle.reg_model.specs.Runs.{RoundRows, IsHistory, nothing}
 use Rattle.reg_requests.specs.declared.items.Item.{Item}
 use Rattle.reg_requests.specs.declared.items.Item.TheVariants as items
-use Rattle.reg_top.specs.Files.{Files}
+use Rattle.reg_session.specs.Files.{Files}
 use Rattle.reg_requests.specs.Lines.{line, spaced, reply_text, bad_text, kind_of}
 use Rattle.reg_requests.specs.Requests.{AreItems, calls_of}
 use Rattle.reg_history.specs.History.{history_text}
 use Rattle.reg_top.specs.Words.{RoundPlan}
-use Rattle.reg_history.specs.Values.{IsRunValue}
+use Rattle.reg_history.specs.lines.Values.{IsRunValue}
 
 -- a line for each item of a file: the refusal, or the reply of the call's row
 abbrev pub item_lines : List Item → List Row → List ℕ

@@ -10,7 +10,7 @@ use Rattle.reg_top.specs.declared.refusal.WordFault.{WordFault}
 use Rattle.reg_top.specs.declared.refusal.WordFault.TheVariants as words_faults
 use Rattle.reg_top.specs.declared.refusal.Refusal.{Refusal}
 use Rattle.reg_top.specs.declared.refusal.Refusal.TheVariants as refusals
-use Rattle.reg_top.specs.Files.{Files}
+use Rattle.reg_session.specs.Files.{Files}
 use Rattle.reg_top.specs.SavedHistories.{HasNoHistory, HasLawfulHistory, HasFaultyHistory}
 use Rattle.reg_top.specs.Words.{Command, IsForm}
 use Rattle.reg_top.specs.Words.Command.{Explain, Compose, Check}
@@ -19,7 +19,7 @@ use Rattle.reg_top.specs.Words.Command.{Explain, Compose, Check}
 abbrev pub IsTextOf : List ℕ → UnitParts → Type 0
 IsTextOf text unit = StandsFor text (codes.Unit unit)
 
--- the text stands for no unit: for no code, or for one of several units
+-- the text stands for no unit: for no ISCC, or for one of several units
 abbrev pub HasWordFault : List ℕ → WordFault → Type 0
 HasWordFault text (words_faults.Text fault) = HasTextFault text fault
 HasWordFault text words_faults.NotUnit = (code : CodeParts) × StandsFor text (codes.Code code)

@@ -3,8 +3,8 @@ use Rattle.std.specs.Prelude.{◌≡◌, ℕ, List, ◌∷◌, ◌++◌, Contain
 use Rattle.std.specs.List.{flat_map}
 use Rattle.reg_requests.specs.Lines.{line}
 use Rattle.reg_requests.specs.Words.{lines_of}
-use Rattle.reg_history.specs.declared.fault.CheckFault.{CheckFault}
-use Rattle.reg_history.specs.Checking.{IsHistoryOf, HasFault}
+use Rattle.reg_history.specs.declared.check.fault.CheckFault.{CheckFault}
+use Rattle.reg_history.specs.check.Checking.{IsHistoryOf, HasLineFault}
 
 -- the line with which a history begins
 abbrev pub head : List ℕ
@@ -32,7 +32,7 @@ pub record HasLawfulHistory (file : List ℕ) (rows live : ℕ) : Type 0 where
 pub record HasFaultyHistory (file : List ℕ) (fault : CheckFault) : Type 0 where
   pub text : List ℕ
   pub saved : IsSavedHistory file text
-  pub faulty : HasFault text fault.line fault.why
+  pub faulty : HasLineFault text fault.line fault.why
 
 -- it isn't both
 abbrev pub IsOneSided : List ℕ → Type 0

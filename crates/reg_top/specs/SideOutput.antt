@@ -4,24 +4,22 @@ use Rattle.std.specs.Fmt.{decimal}
 use Rattle.std.specs.List.{AllZip}
 use Rattle.serde_json.specs.Data.{Data}
 use Rattle.serde_json.specs.Written.{compact_text}
-use Rattle.iscc_header.specs.Bits.{byte_bits}
 use Rattle.iscc_code.specs.declared.iscc.Iscc.{Iscc}
 use Rattle.iscc_code.specs.declared.iscc.Iscc.TheVariants as variants
 use Rattle.iscc_code.specs.Units.{UnitParts}
-use Rattle.iscc_code.specs.Codes.{SpellsIscc}
 use Rattle.iscc_code.specs.Composites.{CodeParts, IsComposite, compose_fault}
-use Rattle.iscc_text.specs.Base32.{letters}
+use Rattle.iscc_text.specs.PrintedTexts.{IsPrintedText}
 use Rattle.iscc_text.specs.Texts.{StandsFor}
 use Rattle.iscc_text.specs.UnitText.{unit_text}
 use Rattle.iscc_text.specs.Explanations.{Explains}
 use Rattle.iscc_instance.specs.Instances.{instance_of}
-use Rattle.reg_top.specs.Files.{Files}
+use Rattle.reg_session.specs.Files.{Files}
 use Rattle.reg_requests.specs.Lines.{line, spaced}
 use Rattle.reg_top.specs.SavedHistories.{HasLawfulHistory}
 use Rattle.reg_top.specs.Refusals.{IsTextOf}
 use Rattle.reg_top.specs.Output.{TakesWhole}
 
--- the output is the one line that explains the code for which the text stands: the compact text of its tree
+-- the output is the one line that explains the ISCC for which the text stands: the compact text of its tree
 pub record IsExplanation (text output : List ℕ) : Type 0 where
   pub iscc : Iscc
   pub read : StandsFor text iscc
@@ -32,10 +30,6 @@ pub record IsExplanation (text output : List ℕ) : Type 0 where
 -- the sink has taken the explanation of the text, and nothing else
 abbrev pub WritesExplanation : List ℕ → Option (List ℕ) → Option (List ℕ) → Type 0
 WritesExplanation text before after = (output : List ℕ) × IsExplanation text output × TakesWhole before after output
-
--- the text is the printed one of the code: `ISCC:` and the letters of its spelling
-abbrev pub IsPrinted : Iscc → List ℕ → Type 0
-IsPrinted iscc text = (spelling : List ℕ) × SpellsIscc iscc spelling × (text ≡ codes "ISCC:" ++ letters (byte_bits spelling))
 
 -- the code is the composite of the units for which the texts stand
 pub record IsCompositeOf (texts : List (List ℕ)) (code : CodeParts) : Type 0 where
@@ -49,7 +43,7 @@ pub record IsComposition (texts : List (List ℕ)) (output : List ℕ) : Type 0 
   pub code : CodeParts
   pub composed : IsCompositeOf texts code
   pub text : List ℕ
-  pub printed : IsPrinted (variants.Code code) text
+  pub printed : IsPrintedText (variants.Code code) text
   pub is : output ≡ line text
 
 -- the sink has taken this line, and nothing else

@@ -1,12 +1,12 @@
 -- When the top call answers which status.
 use Rattle.std.specs.Prelude.{◌≡◌, ◌⊎◌, ℕ, ◌-◌, ◌<◌, ◌^◌, nat_le, if◌then◌else◌, List, [], ◌∷◌, length, Option, Some, None, IfSome, IsSomeAnd}
-use Rattle.reg_top.specs.declared.shelf.FetchFault.{FetchFault}
-use Rattle.reg_top.specs.declared.shelf.FetchFault.TheVariants.{Missing, TooLong}
+use Rattle.reg_session.specs.declared.shelf.FetchFault.{FetchFault}
+use Rattle.reg_session.specs.declared.shelf.FetchFault.TheVariants.{Missing, TooLong}
 use Rattle.reg_top.specs.declared.refusal.Refusal.{Refusal}
 use Rattle.reg_top.specs.declared.status.Status.{Status}
 use Rattle.reg_top.specs.declared.status.Status.TheVariants as status
-use Rattle.reg_top.specs.Faults.{Quiet}
-use Rattle.reg_top.specs.Files.{Files}
+use Rattle.reg_session.specs.Faults.{Quiet}
+use Rattle.reg_session.specs.Files.{Files}
 use Rattle.reg_top.specs.Words.{Command, IsForm, fetched_names}
 use Rattle.reg_top.specs.Words.Command.{Run, Instance, Check}
 use Rattle.reg_top.specs.Refusals.{Refuses, Accepts, IsRefused}
@@ -76,8 +76,8 @@ IsDone result words files = (command : Command) → IsForm words command → Acc
     → IfSome files (λ map. file_fault map command ≡ None → (result ≡ 0) ⊎ (result ≡ 6))
 
 -- the same for a command that fetches no file, whatever the shelf tells
-abbrev pub IsAnswered : ℕ → List (List ℕ) → Option Files → Type 0
-IsAnswered result words files = (command : Command) → IsForm words command → Accepts command files → fetched_names command ≡ [] → (result ≡ 0) ⊎ (result ≡ 6)
+abbrev pub IsGivenAnswer : ℕ → List (List ℕ) → Option Files → Type 0
+IsGivenAnswer result words files = (command : Command) → IsForm words command → Accepts command files → fetched_names command ≡ [] → (result ≡ 0) ⊎ (result ≡ 6)
 
 -- the number of each status
 abbrev pub status_number : Status → ℕ

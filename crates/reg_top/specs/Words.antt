@@ -2,7 +2,7 @@
 use Rattle.std.specs.List.{flat_map}
 use Rattle.std.specs.Prelude.{◌⊎◌, ◌≡◌, ◌≢◌, ℕ, ◌<◌, List, [], ◌∷◌, ◌++◌, length, codes, slice_get, All, Some}
 use Rattle.reg_requests.specs.Numbers.{IsNumber}
-use Rattle.reg_model.specs.Limits.{Limits}
+use Rattle.reg_model.specs.Limits.{Limits, usual_limits}
 use Rattle.reg_top.specs.declared.words.SideWord.{SideWord}
 use Rattle.reg_top.specs.declared.words.SideWord.TheVariants as side
 
@@ -41,7 +41,7 @@ abbrev pub IsRoundMark : List ℕ → Type 0
 IsRoundMark word = (sizes : List ℕ) × (word ≡ codes "/" ++ sizes) × ((sizes ≡ []) ⊎ AreSizes sizes)
 
 -- the words are `run` and the name of a file
-pub record IsRunOf (words : List (List ℕ)) (name : List ℕ) : Type 0 where
+pub record HasOneFile (words : List (List ℕ)) (name : List ℕ) : Type 0 where
   pub words_are : words ≡ codes "run" ∷ name ∷ []
   pub value : IsValue name
   pub no_mark : IsRoundMark name → ⊥
@@ -57,17 +57,13 @@ pub record HasTexts (words texts : List (List ℕ)) : Type 0 where
   pub some : 0 < length texts
   pub are_values : All IsValue texts
 
--- the sizes of a round whose words name none
-abbrev pub usual_limits : ℕ → Limits
-usual_limits callers = record { entries = 4096; log = 65536; bits = 12; callers = callers }
-
 -- one round, with one file
 abbrev pub plan_of : List ℕ → List RoundPlan
 plan_of name = record { limits = usual_limits 1; names = name ∷ [] } ∷ []
 
 -- the words are of the form of a command
 abbrev pub IsForm : List (List ℕ) → Command → Type 0
-IsForm words (Run plan) = (name : List ℕ) × IsRunOf words name × (plan ≡ plan_of name)
+IsForm words (Run plan) = (name : List ℕ) × HasOneFile words name × (plan ≡ plan_of name)
 IsForm words (Explain text) = HasOneValue words (codes "explain") text
 IsForm words (Compose texts) = HasTexts words texts
 IsForm words (Instance name) = HasOneValue words (codes "instance") name

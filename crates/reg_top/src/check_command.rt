@@ -3,21 +3,20 @@ ghost use Rattle.reg_top.specs.SavedHistories.{HasLawfulHistory, IsOneSided};
 ghost use Rattle.reg_top.specs.SideOutput.{lawful_text};
 ghost use Rattle.reg_top.specs.Statuses.{status_number};
 ghost use Rattle.reg_top.specs.Words.Command.{Check};
-ghost use Rattle.reg_top.specs.Ends.{Answers, CheckDeclines, HasOneAnswer, Ends, IsOutcome};
+ghost use Rattle.reg_top.specs.Ends.{Settles, CheckDeclines, HasOneAnswer, Ends, IsOutcome};
 
 use crate::args::Args;
 use crate::fault_line::tell_status;
 use crate::fetch::fetch_file;
 use crate::refusal::Refusal;
 use crate::saved_history::history_in;
-use crate::shelf::Shelf;
-use crate::sink::Sink;
 use crate::status::Status;
 use crate::words::one_value;
 use crate::write::write_line;
 use iscc_header::NoMemory;
 use reg_history::{CheckRefusal, Summary, check_history};
 use reg_requests::print_word_number;
+use reg_session::{Shelf, Sink};
 use std::alloc::Global;
 
 // The greatest length of a file with a history, in bytes.
@@ -47,7 +46,7 @@ pub(crate) fn check_command<F: Shelf, K: Sink>(
 fn check_file<F: Shelf, K: Sink>(alloc: Global, name: &str, shelf: &mut F, sink: &mut K) -> Status
     ensures ends { Ends (Check name.now) (F.files shelf.old) (F.fetch_faults shelf.old) (F.fetch_faults shelf.new)
         (K.taken sink.old) (K.taken sink.new) (K.faults sink.old) (K.faults sink.new) result }
-    ensures one_answer { Answers result → HasOneAnswer (Check name.now) (F.files shelf.old) }
+    ensures one_answer { Settles result → HasOneAnswer (Check name.now) (F.files shelf.old) }
     ensures same { F.files shelf.new ≡ F.files shelf.old }
 {
     let file = match fetch_file(alloc, name, shelf, FILE_MOST) {
@@ -70,7 +69,7 @@ fn check_file<F: Shelf, K: Sink>(alloc: Global, name: &str, shelf: &mut F, sink:
 fn lawful_line(alloc: Global, file: &[u8]) -> Result<Vec<u8>, Status>
     ensures made { IfOk result (λ text. (rows live : ℕ) × HasLawfulHistory file.now rows live × (text.items ≡ lawful_text rows live)) }
     ensures declines { IfErr result (CheckDeclines file.now) }
-    ensures one_sided { MatchResult result (λ _. IsOneSided file.now) (λ status. Answers status → IsOneSided file.now) }
+    ensures one_sided { MatchResult result (λ _. IsOneSided file.now) (λ status. Settles status → IsOneSided file.now) }
 {
     let summary = match summary_of(alloc, file) {
         Ok(summary) => summary,
@@ -86,7 +85,7 @@ fn lawful_line(alloc: Global, file: &[u8]) -> Result<Vec<u8>, Status>
 fn summary_of(alloc: Global, file: &[u8]) -> Result<Summary, Status>
     ensures lawful { IfOk result (λ summary. HasLawfulHistory file.now summary.rows summary.live) }
     ensures declines { IfErr result (CheckDeclines file.now) }
-    ensures one_sided { MatchResult result (λ _. IsOneSided file.now) (λ status. Answers status → IsOneSided file.now) }
+    ensures one_sided { MatchResult result (λ _. IsOneSided file.now) (λ status. Settles status → IsOneSided file.now) }
 {
     let Some(text) = history_in(file) else {
         return Err(Status::Refused(Refusal::NoHistory));

@@ -1,7 +1,7 @@
 ghost use Rattle.std.specs.Prelude.{◌≡◌, ◌<◌, ℕ, Option, List, Some, codes, length, drop, slice_get, IfOk, IfErr};
 ghost use Rattle.std.specs.List.{AllZip};
 ghost use Rattle.iscc_code.specs.Composites.{CodeParts};
-ghost use Rattle.reg_top.specs.Files.{Files};
+ghost use Rattle.reg_session.specs.Files.{Files};
 ghost use Rattle.reg_top.specs.Refusals.{IsTextOf, HasWordFault};
 ghost use Rattle.reg_top.specs.SideOutput.{IsCompositeOf};
 ghost use Rattle.reg_top.specs.Statuses.{status_number};
@@ -11,12 +11,12 @@ ghost use Rattle.reg_top.specs.Ends.{Declines, Ends, IsOutcome};
 use crate::args::Args;
 use crate::fault_line::tell_status;
 use crate::refusal::{Refusal, WordFault};
-use crate::sink::Sink;
 use crate::status::Status;
 use crate::words::has_texts;
 use crate::write::write_line;
 use iscc_code::{Code, Iscc, Unit, compose};
 use iscc_text::{print_iscc, read_iscc};
+use reg_session::Sink;
 use std::alloc::Global;
 
 /// `compose TEXT ..`: writes the composite of the units for which the texts stand.
@@ -93,7 +93,7 @@ fn read_unit(text: &str) -> Result<Unit, WordFault>
     }
 }
 
-// The unit that a code is, if it is one.
+// The unit that an ISCC is, if it is one.
 fn unit_of(iscc: &Iscc) -> Result<Unit, WordFault>
     ensures unit { IfOk result (λ unit. iscc.now ≡ Iscc.Unit unit) }
     ensures several { IfErr result (λ fault. (fault ≡ WordFault.NotUnit) × ((code : CodeParts) × (iscc.now ≡ Iscc.Code code))) }

@@ -2,7 +2,7 @@ ghost use Rattle.std.specs.Prelude.{◌≡◌, ℕ, Option, List, Some, codes, s
 ghost use Rattle.serde_json.specs.Data.{Data};
 ghost use Rattle.serde_json.specs.Written.{compact_text};
 ghost use Rattle.iscc_text.specs.Explanations.{Explains};
-ghost use Rattle.reg_top.specs.Files.{Files};
+ghost use Rattle.reg_session.specs.Files.{Files};
 ghost use Rattle.reg_requests.specs.Lines.{line};
 ghost use Rattle.reg_top.specs.SideOutput.{IsExplanation};
 ghost use Rattle.reg_top.specs.Statuses.{status_number};
@@ -12,16 +12,16 @@ ghost use Rattle.reg_top.specs.Ends.{Declines, Ends, IsOutcome};
 use crate::args::Args;
 use crate::fault_line::tell_status;
 use crate::refusal::Refusal;
-use crate::sink::Sink;
 use crate::status::Status;
 use crate::words::one_value;
 use crate::write::write_line;
 use iscc_code::Iscc;
 use iscc_header::NoMemory;
 use iscc_text::{explain, read_iscc};
+use reg_session::Sink;
 use std::alloc::{AllocError, Global};
 
-/// `explain TEXT`: writes the explanation of the code for which a text stands.
+/// `explain TEXT`: writes the explanation of the ISCC for which a text stands.
 pub(crate) fn explain_command<K: Sink>(alloc: Global, words: &Args, sink: &mut K) -> Status
     requires { slice_get words.now 0 ≡ Some (codes "explain") }
     ensures { (files : Option Files) (count : ℕ) → IsOutcome words.now files count count
@@ -49,7 +49,7 @@ fn explain_text<K: Sink>(alloc: Global, text: &str, sink: &mut K) -> Status
     }
 }
 
-// The compact text of the tree that explains a code.
+// The compact text of the tree that explains an ISCC.
 fn explanation(alloc: Global, text: &str) -> Result<String, Status>
     ensures made { IfOk result (λ tree. IsExplanation text.now (line (string_bytes tree))) }
     ensures declines { (files : Option Files) → IfErr result (Declines (Explain text.now) files) }

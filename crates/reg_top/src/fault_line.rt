@@ -1,16 +1,16 @@
 ghost use Rattle.std.specs.Prelude.{◌≡◌, [], ◌∷◌, ◌++◌, codes};
 ghost use Rattle.std.specs.Fmt.{decimal};
 ghost use Rattle.reg_requests.specs.Lines.{line, spaced};
-ghost use Rattle.reg_top.specs.FaultLines.{Tells, IsTold, status_text, refusal_why, text_why, word_why, code_why, compose_why, line_why};
+ghost use Rattle.reg_top.specs.FaultLines.{Tells, IsTold, status_text, refusal_why, text_why, word_why, iscc_why, compose_why, line_why};
 
 use crate::refusal::{Refusal, WordFault};
-use crate::sink::{Failed, Sink};
 use crate::status::Status;
 use crate::write::{write_all, write_two};
 use iscc_code::{ComposeFault, IsccFault};
 use iscc_text::TextFault;
 use itoa::Buffer;
 use reg_history::{CheckFault, CheckWhy};
+use reg_session::{Failed, Sink};
 
 /// Writes the line that tells a status, with the name of a file where it tells one. Takes no memory.
 ///
@@ -98,12 +98,12 @@ fn tell_text_fault<K: Sink>(sink: &mut K, fault: TextFault)
             tell(sink, b" letter ", buffer.format(at).as_bytes());
         }
         TextFault::Bits => tell(sink, b" bits", b""),
-        TextFault::Iscc(fault) => tell(sink, b" ", code_fault(fault)),
+        TextFault::Iscc(fault) => tell(sink, b" ", iscc_fault(fault)),
     }
 }
 
-fn code_fault(fault: IsccFault) -> &'static [u8]
-    ensures { result.now ≡ code_why fault }
+fn iscc_fault(fault: IsccFault) -> &'static [u8]
+    ensures { result.now ≡ iscc_why fault }
 {
     match fault {
         IsccFault::Header(_) => b"header",

@@ -1,8 +1,8 @@
 ghost use Rattle.std.specs.Prelude.{◌≡◌, ◌≤◌, Some, length, IfOk, IfErr, IfSome, OnOk};
 ghost use Rattle.reg_top.specs.Ends.{StopsFetch};
 
-use crate::shelf::{FetchFault, Shelf};
 use crate::status::Status;
+use reg_session::{FetchFault, Shelf};
 use std::alloc::Global;
 
 /// The bytes of a file of at most `limit` bytes, or the status of its fault.

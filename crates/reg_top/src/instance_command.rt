@@ -1,5 +1,4 @@
-ghost use Rattle.std.specs.Prelude.{◌≡◌, ◌≤◌, ◌^◌, Some, codes, length, slice_get, IfOk, IfErr, OnOk};
-ghost use Rattle.iscc_instance.specs.Instances.{instance_of};
+ghost use Rattle.std.specs.Prelude.{◌≡◌, Some, codes, slice_get};
 ghost use Rattle.reg_top.specs.Statuses.{status_number};
 ghost use Rattle.reg_top.specs.Words.Command.{Instance};
 ghost use Rattle.reg_top.specs.Ends.{Ends, IsOutcome};
@@ -7,21 +6,16 @@ ghost use Rattle.reg_top.specs.Ends.{Ends, IsOutcome};
 use crate::args::Args;
 use crate::fault_line::tell_status;
 use crate::fetch::fetch_file;
-use crate::shelf::Shelf;
-use crate::sink::Sink;
 use crate::status::Status;
 use crate::words::one_value;
 use crate::write::write_line;
-use iscc_header::Unit64;
-use iscc_instance::{Hasher, instance_unit};
+use iscc_instance::instance_code;
 use iscc_text::print_unit;
+use reg_session::{Shelf, Sink};
 use std::alloc::Global;
 
 // The greatest length of a file that gets an Instance-Code, in bytes.
 const FILE_MOST: usize = 1 << 28;
-
-// The width of the code, in bits.
-const BITS: u32 = 64;
 
 /// `instance FILE`: writes the Instance-Code of the bytes of a file. Takes no memory but the file's.
 pub(crate) fn instance_command<F: Shelf, K: Sink>(
@@ -64,18 +58,4 @@ fn instance_file<F: Shelf, K: Sink>(
             status
         }
     }
-}
-
-// The Instance-Code of bytes.
-fn instance_code(bytes: &[u8]) -> Unit64
-    requires { length bytes.now ≤ 2 ^ 28 }
-    ensures { result ≡ instance_of bytes.now }
-{
-    let mut hasher = Hasher::new();
-    hasher.update(bytes);
-    let unit = instance_unit(&hasher.finalize(), BITS);
-    let Some(short) = unit.first64() else {
-        unreachable!()
-    };
-    short
 }

@@ -1,7 +1,7 @@
 //! The top call: it reads the words of a command line, fetches the request files from a shelf, serves their calls,
 //! and writes replies and one history of all calls to a sink.
 //!
-//! It stands on `reg_requests`, which reads request lines and prints replies, on `reg_history`, which prints and checks
+//! It stands on `reg_session`, which has shelf and sink, on `reg_requests`, which reads request lines and prints replies, on `reg_history`, which prints and checks
 //! histories, on `reg_model`, and on `iscc_text`, `iscc_code` and `iscc_instance`; `iscc_registry` calls `top` with the real shelf and sink, tests call it with those in
 //! memory. The way of a request: `words` (what is asked), `fetch` (a file's bytes), `serve` (calls to rows), `replies`
 //! (rows to text), `run` (all of it, and the statuses), `write` (bytes to the sink), `fault_line` (the line of a
@@ -17,31 +17,20 @@ mod explain_command;
 mod fault_line;
 mod fetch;
 mod instance_command;
-mod list_shelf;
-mod list_sink;
 mod refusal;
 mod replies;
 mod run;
 mod saved_history;
 mod serve;
-mod shelf;
 mod side_commands;
-mod sink;
 mod status;
-mod sure_shelf;
-mod sure_sink;
 mod words;
 mod write;
 
 pub use args::Args;
-pub use list_shelf::ListShelf;
-pub use list_sink::ListSink;
+pub use reg_session::{Failed, FetchFault, ListShelf, ListSink, Shelf, Sink, SureShelf, SureSink};
 pub use run::top;
-pub use shelf::{FetchFault, Shelf};
 pub use side_commands::side;
-pub use sink::{Failed, Sink};
-pub use sure_shelf::SureShelf;
-pub use sure_sink::SureSink;
 
 #[cfg(test)]
 mod tests;

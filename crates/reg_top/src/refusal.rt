@@ -5,7 +5,7 @@ use reg_history::CheckFault;
 /// Why a word that is to be composed stands for no unit.
 #[derive(Clone, Copy, Debug, PartialEq, Eq)]
 pub enum WordFault {
-    /// It stands for no code.
+    /// It stands for no ISCC.
     Text(TextFault),
     /// It stands for an ISCC-CODE, which has several units.
     NotUnit,
@@ -14,7 +14,7 @@ pub enum WordFault {
 /// Why a command refuses what it is given.
 #[derive(Clone, Copy, Debug, PartialEq, Eq)]
 pub enum Refusal {
-    /// The text to be explained stands for no code.
+    /// The text to be explained stands for no ISCC.
     Text(TextFault),
     /// This word to be composed, counted from 0, is the first that stands for no unit.
     Word { at: usize, why: WordFault },

@@ -1,19 +1,20 @@
 ghost use Rattle.std.specs.Prelude.{◌≡◌, ◌≢◌, ◌<◌, ◌≤◌, ◌^◌, [], List, ℕ, Some, IfOk, IfErr, OnOk, IsErr, Contains, All, length, map};
 ghost use Rattle.reg_model.specs.Runs.{nothing};
 ghost use Rattle.reg_top.specs.LoneRounds.{IsLoneRound};
-ghost use Rattle.reg_top.specs.Faults.{Rose, Quiet};
-ghost use Rattle.reg_top.specs.Files.{Files};
+ghost use Rattle.reg_session.specs.Faults.{Rose, Quiet};
+ghost use Rattle.reg_session.specs.Files.{Files};
 ghost use Rattle.reg_requests.specs.declared.items.Line.{Line as ALine};
 ghost use Rattle.reg_requests.specs.Words.{line_words};
-ghost use Rattle.reg_requests.specs.Requests.{ReadsLine, IsRequest, calls_of as calls_asked};
-ghost use Rattle.reg_requests.specs.TakenCodes.{HasCodeText, TakesCode};
-ghost use Rattle.reg_top.specs.declared.shelf.FetchFault.TheVariants.{Missing, TooLong};
+ghost use Rattle.reg_requests.specs.Requests.{ReadsLine, calls_of as calls_asked};
+ghost use Rattle.reg_model.specs.Calls.{IsRequest};
+ghost use Rattle.reg_requests.specs.TakenIsccs.{HasIsccText, TakesIscc};
+ghost use Rattle.reg_session.specs.declared.shelf.FetchFault.TheVariants.{Missing, TooLong};
 ghost use Rattle.reg_top.specs.Words.{plan_of, RoundPlan, IsForm, IsSideCommand};
 ghost use Rattle.reg_top.specs.Words.{Command};
 ghost use Rattle.reg_top.specs.Words.Command.{Run, Explain, Compose, Instance, Check};
 ghost use Rattle.reg_top.specs.FaultLines.{TellsStatus};
 ghost use Rattle.reg_top.specs.Ends.{StopsFetch, Ends, IsOutcome};
-ghost use Rattle.reg_top.specs.Statuses.{Exactly, HasNoForm, IsStopStatus, IsFetched, IsRefusedStatus, IsDone, IsAnswered, statuses, status_number};
+ghost use Rattle.reg_top.specs.Statuses.{Exactly, HasNoForm, IsStopStatus, IsFetched, IsRefusedStatus, IsDone, IsGivenAnswer, statuses, status_number};
 ghost use Rattle.reg_top.specs.Output.{IsRunOutput, WritesRun};
 ghost use Rattle.reg_top.specs.SideOutput.{WritesExplanation, WritesComposition, WritesInstance, WritesCheck};
 ghost use Rattle.reg_top.specs.CommandOutput.{IsOutput, WritesFront};
@@ -23,27 +24,22 @@ use crate::fault_line::tell_status;
 use crate::fetch::fetch_file;
 use crate::replies::print_replies;
 use crate::serve::serve;
-use crate::shelf::Shelf;
 use crate::side_commands::side;
-use crate::sink::Sink;
 use crate::status::Status;
 use crate::words::run_file;
 use crate::write::write_output;
 use iscc_header::NoMemory;
 use reg_history::append_history;
-use reg_model::{Accounts, Call, Carried, Plain, Round, Rows, Sizes, StartFault};
+use reg_model::{
+    Accounts, BITS_USUAL, Call, Carried, ENTRIES_USUAL, LOG_USUAL, Plain, Round, Rows, Sizes,
+    StartFault,
+};
 use reg_requests::{Item, read_requests};
+use reg_session::{Shelf, Sink};
 use std::alloc::Global;
 
 // The greatest length of a request file, in bytes.
 const REQUEST_MOST: usize = 1 << 24;
-
-// The sizes of a round whose words name none.
-const ENTRIES: u32 = 4096;
-
-const LOG: u32 = 65536;
-
-const BITS: u32 = 12;
 
 /// Does what the words say, and answers the status: docs/FORMATS.md has the words and the statuses.
 ///
@@ -53,8 +49,8 @@ pub fn top<F: Shelf, K: Sink>(alloc: Global, words: &Args, shelf: &mut F, sink: 
     ensures run { (plan : List RoundPlan) → IsForm words.now (Run plan) → result ≡ 0
         → WritesRun plan (F.files shelf.old) (K.taken sink.old) (K.taken sink.new) }
 
-    // The text of a `declare` or a `near` line is taken as a code exactly where it stands for one.
-    ensures text { (line text : List ℕ) (read : ALine) → ReadsLine line read → HasCodeText (line_words line) text → TakesCode text read }
+    // The text of a `declare` or a `near` line is taken as an ISCC exactly where it stands for one.
+    ensures text { (line text : List ℕ) (read : ALine) → ReadsLine line read → HasIsccText (line_words line) text → TakesIscc text read }
 
     // The output is the explanation of the given text.
     ensures explain { (text : List ℕ) → IsForm words.now (Explain text) → result ≡ 0
@@ -85,7 +81,7 @@ pub fn top<F: Shelf, K: Sink>(alloc: Global, words: &Args, shelf: &mut F, sink: 
     // shelf's faults are.
     ensures done { Quiet (F.fetch_faults shelf.old) (F.fetch_faults shelf.new) → Quiet (K.faults sink.old) (K.faults sink.new)
         → IsDone result words.now (F.files shelf.old) }
-    ensures answered { Quiet (K.faults sink.old) (K.faults sink.new) → IsAnswered result words.now (F.files shelf.old) }
+    ensures answered { Quiet (K.faults sink.old) (K.faults sink.new) → IsGivenAnswer result words.now (F.files shelf.old) }
 
     // What the sink and the shelf have afterwards.
     ensures cut_short { (command : Command) → IsForm words.now command → result ≡ 5
@@ -160,7 +156,7 @@ fn output_of(alloc: Global, file: &[u8]) -> Result<Vec<u8>, NoMemory>
         → IsRunOutput nothing (plan_of name) files output.items) }
 {
     let items = read_requests(alloc, file)?;
-    let sizes = Sizes::new(ENTRIES, LOG, BITS, 1).unwrap();
+    let sizes = Sizes::new(ENTRIES_USUAL, LOG_USUAL, BITS_USUAL, 1).unwrap();
     let rounds = [serve_items(alloc, &sizes, items.as_slice())?];
     let mut output = Vec::new(alloc);
     print_replies(
@@ -186,11 +182,12 @@ fn serve_items(alloc: Global, sizes: &Sizes, items: &[Item]) -> Result<Round, No
     let rows = serve(alloc, &mut plain, calls.as_slice())?;
     let mut accounts = Accounts::new(alloc);
     accounts.push(Rows::from_vec(rows))?;
+    let (_, carried) = plain.into_parts();
     Ok(Round {
         base: 0,
         sizes: *sizes,
         accounts,
-        carried: plain.carry(alloc)?,
+        carried,
     })
 }
 

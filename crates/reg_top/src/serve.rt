@@ -1,7 +1,7 @@
 ghost use Rattle.std.specs.Prelude.{◌≡◌, ◌<◌, ◌≤◌, ◌^◌, [], All, IfOk, length, map};
 ghost use Rattle.reg_model.specs.Registry.{Serves};
 ghost use Rattle.reg_model.specs.Rows.{IsLawful, log_of, session_rows};
-ghost use Rattle.reg_requests.specs.Requests.{IsRequest};
+ghost use Rattle.reg_model.specs.Calls.{IsRequest};
 
 use iscc_header::NoMemory;
 use reg_model::{Answer, Call, Plain, Row};

@@ -7,9 +7,8 @@ use crate::check_command::check_command;
 use crate::compose_command::compose_command;
 use crate::explain_command::explain_command;
 use crate::instance_command::instance_command;
-use crate::shelf::Shelf;
-use crate::sink::Sink;
 use crate::words::{SideWord, side_word};
+use reg_session::{Shelf, Sink};
 use std::alloc::Global;
 
 /// Does the commands that serve no calls, which are `explain`, `compose`, `instance` and `check`, and answers the status. Always returns.

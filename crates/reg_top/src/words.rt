@@ -1,14 +1,14 @@
 ghost use Rattle.std.specs.Prelude.{◌≡◌, ◌<◌, ℕ, List, ◌↔◌, IsTrue, IfSome, IfNone, All, length, drop, slice_get};
 ghost use Rattle.reg_requests.specs.Numbers.{IsNumber};
-ghost use Rattle.reg_top.specs.Words.{IsValue, IsRoundMark, AreSizes, IsRunOf, HasOneValue, side_text, IsSideCommand};
+ghost use Rattle.reg_top.specs.Words.{IsValue, IsRoundMark, AreSizes, HasOneFile, HasOneValue, side_text, IsSideCommand};
 
 use crate::args::Args;
 use reg_requests::read_number;
 
 /// The name of the file that a `run` names, where the words are of that form.
 pub(crate) fn run_file(words: &Args) -> Option<&str>
-    ensures found { IfSome result (λ name. IsRunOf words.now name.now) }
-    ensures none { IfNone result ((name : List ℕ) → IsRunOf words.now name → ⊥) }
+    ensures found { IfSome result (λ name. HasOneFile words.now name.now) }
+    ensures none { IfNone result ((name : List ℕ) → HasOneFile words.now name → ⊥) }
 {
     if words.len() != 2 || words.word(0) != "run" {
         return None;

@@ -1,11 +1,11 @@
 ghost use Rattle.std.specs.Prelude.{◌≡◌, ◌++◌, IsErr, MatchResult};
-ghost use Rattle.reg_top.specs.Faults.{HasCause};
+ghost use Rattle.reg_session.specs.Faults.{HasCause};
 ghost use Rattle.reg_requests.specs.Lines.{line};
 ghost use Rattle.reg_top.specs.Output.{TakesWhole, TakesPart};
 ghost use Rattle.reg_top.specs.Ends.{OutputEnds};
 
-use crate::sink::{Failed, Sink};
 use crate::status::Status;
+use reg_session::{Failed, Sink};
 
 /// Writes all bytes, or those before a fault. Takes no memory.
 pub(crate) fn write_all<K: Sink>(sink: &mut K, bytes: &[u8]) -> Result<(), Failed>

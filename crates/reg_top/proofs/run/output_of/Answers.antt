@@ -11,8 +11,8 @@ use Rattle.reg_history.specs.History.{history_text}
 use Rattle.reg_history.specs.Rounds.{AreRoundsOf, IsRunOf}
 use Rattle.reg_top.specs.LoneRounds.{IsLoneRound}
 use Rattle.reg_top.specs.Output.{item_lines}
-use Rattle.reg_top.specs.Words.{usual_limits}
-use Rattle.reg_top.proofs.OneRound.{run_output, lone_run, lone_account, opening_is}
+use Rattle.reg_model.specs.Limits.{usual_limits}
+use Rattle.reg_top.proofs.OneRound.{run_output, lone_run, lone_account}
 use Rattle.reg_top.proofs.run.output_of.Goals as goal
 
 pub serve_items-requires-clause-few : goal.serve_items-requires-clause-few
@@ -24,7 +24,7 @@ serve_items-requires-clause-known c = rw c.as_slice.ensures c.in_ok-items.ensure
 
 pub append_history-requires : goal.append_history-requires
 append_history-requires c =
-    let none : c.new-2.result ≡ nothing = opening_is c.new-2.result c.new-2.ensures.base c.new-2.ensures.list in
+    let none : c.new-2.result ≡ nothing = c.new-2.ensures in
     subst (λ (o : Opening). IsRunOf o (c.in_ok-serve_items.field-0 ∷ [])) (sym none)
     (record { limits = c.unwrap-sizes.result; rows = (let lone = c.in_ok-serve_items.ensures in lone.rows) } ∷ [], lone_run c.unwrap-sizes.result _ c.in_ok-serve_items.field-0 c.in_ok-serve_items.ensures)
 
@@ -32,12 +32,12 @@ pub returns : goal.returns
 returns c = λ files name held.
     let list = c.in_ok-items.items in
     let round : Round = c.in_ok-serve_items.field-0 in
-    let none : c.new-2.result ≡ nothing = opening_is c.new-2.result c.new-2.ensures.base c.new-2.ensures.list in
+    let none : c.new-2.result ≡ nothing = c.new-2.ensures in
     let limits : c.unwrap-sizes.result ≡ usual_limits 1 = search rules in
     let lone : IsLoneRound (usual_limits 1) (calls_of list) round =
     subst (λ (l : Limits). IsLoneRound l (calls_of list) round) limits (subst (λ is. IsLoneRound c.unwrap-sizes.result (calls_of is) round) c.as_slice.ensures c.in_ok-serve_items.ensures) in
     let rows = lone.rows in
-    let printed = c.in_ok-append_history.ensures (record { limits = usual_limits 1; rows = rows } ∷ [])
+    let printed = c.in_ok-append_history.ensures.ok (record { limits = usual_limits 1; rows = rows } ∷ [])
     (subst (λ (o : Opening). AreRoundsOf o (round ∷ []) (record { limits = usual_limits 1; rows = rows } ∷ [])) (sym none) (lone_run (usual_limits 1) (calls_of list) round lone)) in
     let account : c.as_slice-4.result.now ≡ rows =
     c.as_slice-4.ensures
