@@ -16,7 +16,7 @@ use Rattle.iscc_text.specs.Texts.{StandsFor, HasTextFault}
 use Rattle.iscc_text.proofs.OneText.{one_reading, one_iscc}
 use Rattle.reg_top.specs.declared.refusal.WordFault.{WordFault}
 use Rattle.reg_top.specs.declared.refusal.WordFault.TheVariants as word_faults
-use Rattle.reg_top.specs.Refusals.{IsTextOf, HasWordFault, HasRefusedText}
+use Rattle.reg_top.specs.commands.Compose.{IsTextOf, HasWordFault, HasRefusedText}
 use Rattle.reg_top.specs.Words.{IsValue}
 
 -- ---- places behind the first word

@@ -1,100 +1,334 @@
--- From the parts of a command to how it ends.
-use Rattle.std.proofs.Common.{◌≡◌, ℕ, ◌<◌, ◌≤◌, true, false, List, [], ◌∷◌, length, Option, Some, None, refl, sym, ◌∙◌, ap, subst, arith, lit<}
-use Rattle.std.specs.Prelude.{IfSome, IsSomeAnd, nat_le, Contains}
+-- From the end of a command to its status, and to what each status says.
+use Rattle.std.proofs.Common.{◌≡◌, ◌⊎◌, inl, inr, ℕ, ◌<◌, ◌≤◌, zero, suc, List, [], ◌∷◌, ◌++◌, length, Option, Some, None, refl, sym, ◌∙◌, subst, arith, lit<, lit≤, get_or}
+use Rattle.std.specs.Prelude.{IfSome, IsSomeAnd, Contains, All}
+use Rattle.reg_model.specs.Runs.{RoundRows}
 use Rattle.reg_model.proofs.RowSteps.{IfSome-weaker}
-use Rattle.reg_session.specs.declared.shelf.FetchFault.TheVariants.{Missing, TooLong}
-use Rattle.reg_top.specs.declared.status.Status.{Status}
-use Rattle.reg_top.specs.declared.status.Status.TheVariants as status
+use Rattle.reg_session.specs.declared.shelf.FetchFault.{FetchFault}
+use Rattle.reg_session.specs.declared.shelf.FetchFault.TheVariants as faults
+use Rattle.reg_session.specs.Faults.{Quiet, Rose}
 use Rattle.reg_session.specs.Files.{Files}
-use Rattle.reg_requests.specs.Lines.{line}
-use Rattle.reg_top.specs.CommandOutput.{IsOutput}
-use Rattle.reg_top.specs.Words.{Command, fetched_names}
-use Rattle.reg_top.specs.Statuses.{refusal_then, first_refusal, fetch_limit, file_fault, IsFetched}
-use Rattle.reg_top.specs.FaultLines.{Tells, IsTold, status_text}
-use Rattle.reg_top.specs.Ends.{StopsFetch, Declines, OutputEnds, Ends}
+use Rattle.reg_session.specs.Outside.{Outside, TakesWhole, TakesPart, Tells}
+use Rattle.reg_top.specs.declared.ending.Ending.{Ending}
+use Rattle.reg_top.specs.declared.ending.Ending.TheVariants as endings
+use Rattle.reg_top.specs.declared.refusal.Refusal.{Refusal}
+use Rattle.reg_top.specs.declared.refusal.Refusal.TheVariants as refusals
+use Rattle.reg_top.specs.Fetches.{Command, Fetch, fetches}
+use Rattle.reg_top.specs.Words.{IsForm}
+use Rattle.reg_top.specs.Dispatch.{IsOutput, Refuses}
+use Rattle.reg_top.specs.FaultLines.{words_line, missing_line, read_line, long_line, memory_line, refusal_line, refusal_number}
+use Rattle.reg_top.specs.Outcomes.{GivenBy, IsHeld, IsMissing, IsTooLong, IsReached, IsGiven, Exactly, HasNoForm, Writes, WritesFront, TellsFile, IsFileStatus, TellsRead, TellsRefusal, IsRefusalNumber, EndsWith, statuses, IsOutcome}
+use Rattle.reg_top.specs.inner.Endings.{ending_number, unread_number, unread_line, UnreadWhy, Fetched, GivesNone, Makes, EndsDone, EndsUnwritten, EndsRefused, EndsShort, Ends}
+use Rattle.reg_top.proofs.Forms.{one_form}
 
--- ---- the one file of a command
+-- ---- counts of faults
 
-missing_is : (limit : ℕ) (name : List ℕ) (map : Files) → map name ≡ None → first_refusal limit map (name ∷ []) ≡ Some Missing
-missing_is limit name map none = ap (λ held. refusal_then limit held None) none
+not_quiet : (before now : ℕ) → Quiet before now → Rose before now → ⊥
+not_quiet before now quiet rose = grind (arith, quiet.0, quiet.1, rose)
 
-long_is : (limit : ℕ) (held : Option (List ℕ)) → IsSomeAnd held (λ bytes. limit < length bytes) → refusal_then limit held None ≡ Some TooLong
-long_is limit None long = absurd long
-long_is limit (Some bytes) long = let beyond : nat_le (length bytes) limit ≡ false = grind arith in rw beyond refl
+not_less : (before now : ℕ) → now ≡ before → before < now → ⊥
+not_less before now same less = omega (arith, same, less)
 
-held_is : (limit : ℕ) (name bytes : List ℕ) (map : Files) → length bytes ≤ limit → map name ≡ Some bytes → first_refusal limit map (name ∷ []) ≡ None
-held_is limit name bytes map within held =
-    let inside : nat_le (length bytes) limit ≡ true = grind arith in
-    ap (λ h. refusal_then limit h None) held ∙ rw inside refl
+-- ---- lists of fetches
 
--- a command whose one file is there and in limit
-pub fetched : (command : Command) (name bytes : List ℕ) (files : Option Files) (before now : ℕ) → fetched_names command ≡ name ∷ []
-    → IfSome files (λ map. map name ≡ Some bytes) → length bytes ≤ fetch_limit command → now ≡ before → IsFetched command files before now
-fetched command name bytes files before now names held within quiet = (
-  IfSome-weaker _ _ (λ map h. ap (λ ns. first_refusal (fetch_limit command) map ns) names ∙ held_is (fetch_limit command) name bytes map within h) files held,
-  quiet,
-)
+head_of : (P : Fetch → Type 0) (x : Fetch) (xs : List Fetch) → All P (x ∷ xs) → P x
+head_of P x xs all = all 0 x (omega arith)
 
-one_name : (command : Command) (name : List ℕ) → fetched_names command ≡ name ∷ [] → Contains (fetched_names command) name
-one_name command name names = subst (λ ns. Contains ns name) (sym names) (0, lit< tt, refl)
+tail_of : (P : Fetch → Type 0) (x : Fetch) (xs : List Fetch) → All P (x ∷ xs) → All P xs
+tail_of P x xs all k d within = all (suc k) d (omega (arith, within))
 
--- a command whose one file isn't read
-pub unread_ends : (command : Command) (name : List ℕ) (files : Option Files) (before now : ℕ) (taken after : Option (List ℕ)) (was faults : ℕ) (end : Status)
-    → fetched_names command ≡ name ∷ [] → StopsFetch (fetch_limit command) name files before now end
-    → (IsTold end → Tells taken after was faults (line (status_text end name))) → Ends command files before now taken after was faults end
-unread_ends command name files before now taken after was faults status.Done names stops tells = absurd stops
-unread_ends command name files before now taken after was faults status.Write names stops tells = absurd stops
-unread_ends command name files before now taken after was faults status.Words names stops tells = absurd stops
-unread_ends command name files before now taken after was faults (status.Refused why) names stops tells = absurd stops
-unread_ends command name files before now taken after was faults status.Memory names stops tells = (tt, line (status_text status.Memory []), refl, tells tt)
-unread_ends command name files before now taken after was faults status.Read names stops tells =
-    (stops, line (status_text status.Read name), (name, one_name command name names, refl), tells tt)
-unread_ends command name files before now taken after was faults status.Missing names stops tells = (
-  (stops.0, IfSome-weaker _ _ (λ map none. ap (λ ns. first_refusal (fetch_limit command) map ns) names ∙ missing_is (fetch_limit command) name map none) files stops.1),
-  line (status_text status.Missing name),
-  (name, one_name command name names, refl),
-  tells tt,
-)
-unread_ends command name files before now taken after was faults status.TooLong names stops tells = (
-  (stops.0, IfSome-weaker _ _ (λ map long. ap (λ ns. first_refusal (fetch_limit command) map ns) names ∙ long_is (fetch_limit command) (map name) long) files stops.1),
-  line (status_text status.TooLong name),
-  (name, one_name command name names, refl),
-  tells tt,
-)
+held_at : (P : Fetch → Type 0) (xs : List Fetch) (a : Fetch) (rest : List Fetch) → All P (xs ++ a ∷ rest) → P a
+held_at P [] a rest all = head_of P a rest all
+held_at P (x ∷ xs) a rest all = held_at P xs a rest (tail_of P x (xs ++ a ∷ rest) all)
 
--- ---- a command that fetches nothing
+-- behind two fronts in which P holds stand the same first element without it
+first_without : (P : Fetch → Type 0) (xs ys : List Fetch) (a b : Fetch) (rest more : List Fetch) → xs ++ a ∷ rest ≡ ys ++ b ∷ more
+    → All P xs → All P ys → (P a → ⊥) → (P b → ⊥) → a ≡ b
+first_without P [] [] a b rest more same f g na nb = cc
+first_without P [] (y ∷ ys) a b rest more same f g na nb = let is : y ≡ a = cc in absurd (na (subst P is (head_of P y ys g)))
+first_without P (x ∷ xs) [] a b rest more same f g na nb = let is : x ≡ b = cc in absurd (nb (subst P is (head_of P x xs f)))
+first_without P (x ∷ xs) (y ∷ ys) a b rest more same f g na nb =
+    let tails : xs ++ a ∷ rest ≡ ys ++ b ∷ more = cc in
+    first_without P xs ys a b rest more tails (tail_of P x xs f) (tail_of P y ys g) na nb
 
-none_fetched : (files : Option Files) (command : Command) → fetched_names command ≡ [] → IfSome files (λ map. file_fault map command ≡ None)
-none_fetched None command none = tt
-none_fetched (Some map) command none = ap (λ ns. first_refusal (fetch_limit command) map ns) none
+-- ---- files that are there, and others
 
-pub unfetched : (command : Command) (files : Option Files) (count : ℕ) → fetched_names command ≡ [] → IsFetched command files count count
-unfetched command files count none = (none_fetched files command none, refl)
+missing_unheld : (files : Files) (fetch : Fetch) → IsMissing files fetch → IsHeld files fetch → ⊥
+missing_unheld files fetch missing held = subst (λ h. IsSomeAnd h (λ bytes. length bytes ≤ fetch.limit)) missing held
 
--- what it is given makes no output
-pub declined_ends : (command : Command) (files : Option Files) (before now : ℕ) (taken after : Option (List ℕ)) (was faults : ℕ) (end : Status)
-    → IsFetched command files before now → Declines command files end → (IsTold end → Tells taken after was faults (line (status_text end [])))
-    → Ends command files before now taken after was faults end
-declined_ends command files before now taken after was faults status.Memory fetched declines tells = (tt, line (status_text status.Memory []), refl, tells tt)
-declined_ends command files before now taken after was faults (status.Refused why) fetched declines tells =
-    ((fetched, declines), line (status_text (status.Refused why) []), (declines, refl), tells tt)
-declined_ends command files before now taken after was faults status.Done fetched declines tells = absurd declines
-declined_ends command files before now taken after was faults status.Write fetched declines tells = absurd declines
-declined_ends command files before now taken after was faults status.Words fetched declines tells = absurd declines
-declined_ends command files before now taken after was faults status.Missing fetched declines tells = absurd declines
-declined_ends command files before now taken after was faults status.TooLong fetched declines tells = absurd declines
-declined_ends command files before now taken after was faults status.Read fetched declines tells = absurd declines
+within_and_beyond : (held : Option (List ℕ)) (limit : ℕ) → IsSomeAnd held (λ bytes. limit < length bytes) → IsSomeAnd held (λ bytes. length bytes ≤ limit) → ⊥
+within_and_beyond None limit long within = long
+within_and_beyond (Some bytes) limit long within = omega (arith, long, within)
 
--- ---- an output that is written
+long_unheld : (files : Files) (fetch : Fetch) → IsTooLong files fetch → IsHeld files fetch → ⊥
+long_unheld files fetch long held = within_and_beyond (files fetch.name) fetch.limit long held
 
-pub output_ends : (command : Command) (files : Option Files) (before now : ℕ) (taken after : Option (List ℕ)) (was faults : ℕ) (output : List ℕ) (end : Status)
-    → IsFetched command files before now → IsOutput command files output → OutputEnds taken after was faults output end
-    → Ends command files before now taken after was faults end
-output_ends command files before now taken after was faults output status.Done fetched is ends = (fetched, ends.0, (output, is, ends.1))
-output_ends command files before now taken after was faults output status.Write fetched is ends = (fetched, ends.0, (output, is, ends.1))
-output_ends command files before now taken after was faults output status.Words fetched is ends = absurd ends
-output_ends command files before now taken after was faults output status.Missing fetched is ends = absurd ends
-output_ends command files before now taken after was faults output status.TooLong fetched is ends = absurd ends
-output_ends command files before now taken after was faults output status.Read fetched is ends = absurd ends
-output_ends command files before now taken after was faults output status.Memory fetched is ends = absurd ends
-output_ends command files before now taken after was faults output (status.Refused why) fetched is ends = absurd ends
+not_both : (files : Files) (fetch : Fetch) → IsMissing files fetch → IsTooLong files fetch → ⊥
+not_both files fetch missing long = subst (λ h. IsSomeAnd h (λ bytes. fetch.limit < length bytes)) missing long
+
+reached_held : (command : Command) (files : Files) (fetch : Fetch) → IsReached command files fetch → All (IsHeld files) (fetches command) → IsHeld files fetch
+reached_held command files fetch reached all = held_at (IsHeld files) reached.before fetch reached.rest (subst (All (IsHeld files)) reached.all all)
+
+-- one file is the first that gives no bytes
+one_reached : (command : Command) (files : Files) (a b : Fetch) → IsReached command files a → IsReached command files b
+    → (IsHeld files a → ⊥) → (IsHeld files b → ⊥) → a ≡ b
+one_reached command files a b ra rb na nb =
+    first_without (IsHeld files) ra.before rb.before a b ra.rest rb.rest (sym ra.all ∙ rb.all) ra.held rb.held na nb
+
+-- ---- what is given
+
+pub always : {X : Type 0} (P : X → Type 0) → ((x : X) → P x) → (o : Option X) → IfSome o P
+always P f None = tt
+always P f (Some x) = f x
+
+given_weaker : (list : List Fetch) (files : Option Files) (P Q : Files → Type 0) → ((map : Files) → P map → Q map) → GivenBy list files P → GivenBy list files Q
+given_weaker [] files P Q f given = f (λ name. None) given
+given_weaker (x ∷ list) files P Q f given = IfSome-weaker P Q f files given
+
+-- P and Q of the same files, which are known
+given_both : (list : List Fetch) (files : Option Files) (P Q R : Files → Type 0) → (list ≡ []) ⊎ IsSomeAnd files R
+    → GivenBy list files P → GivenBy list files Q → ((map : Files) → P map → Q map → ⊥) → ⊥
+given_both [] files P Q R known p q clash = clash (λ name. None) p q
+given_both (x ∷ list) None P Q R known p q clash = elim known [ inl none ↦ cc | inr some ↦ some ]
+given_both (x ∷ list) (Some map) P Q R known p q clash = clash map p q
+
+known_of : (command : Command) (before after : Outside) → IsGiven command before after
+    → (fetches command ≡ []) ⊎ IsSomeAnd before.shelf.files (λ files. All (IsHeld files) (fetches command))
+known_of command before after given = elim given [ inl none ↦ inl none | inr both ↦ inr both.0 ]
+
+some_with : (files : Option Files) (P Q : Files → Type 0) → IsSomeAnd files P → IfSome files Q → ((map : Files) → P map → Q map → ⊥) → ⊥
+some_with None P Q p q clash = p
+some_with (Some map) P Q p q clash = clash map p q
+
+none_in : (list : List Fetch) (fetch : Fetch) → list ≡ [] → Contains list fetch → ⊥
+none_in list fetch none one = let short : length list ≡ 0 = subst (λ l. length list ≡ length l) none refl in omega (arith, short, one.1)
+
+-- a file that gave no bytes, and why, where what the command is given is known
+unread_given : (command : Command) (before after : Outside) (fault : FetchFault) → GivesNone command before after fault
+    → ((files : Files) (fetch : Fetch) → UnreadWhy fault files fetch → IsHeld files fetch → ⊥) → IsGiven command before after → ⊥
+unread_given command before after fault none unheld given =
+    elim given [
+      | inl nothing ↦ none_in (fetches command) none.fetch nothing none.one
+      | inr both ↦ some_with before.shelf.files (λ files. All (IsHeld files) (fetches command)) (λ files. IsReached command files none.fetch × UnreadWhy fault files none.fetch)
+          both.0 none.why (λ files all why. unheld files none.fetch why.1 (reached_held command files none.fetch why.0 all))
+    ]
+
+-- ---- statuses of files
+
+-- a number that isn't the status, where all files are there and in limit
+other_number : (command : Command) (before after : Outside) (status number : ℕ) (Fault : Files → Fetch → Type 0) (line_of : List ℕ → List ℕ)
+    → (status ≡ number → ⊥) → ((files : Files) (fetch : Fetch) → Fault files fetch → IsHeld files fetch → ⊥)
+    → IfSome before.shelf.files (λ files. All (IsHeld files) (fetches command)) → IsFileStatus command before after status number Fault line_of
+other_number command before after status number Fault line_of other unheld held = record {
+  only = λ is. absurd (other is);
+  where_it_holds = λ _. IfSome-weaker _ _ (λ files all fetch reached fault. absurd (unheld files fetch fault (reached_held command files fetch reached all))) before.shelf.files held;
+}
+
+-- the same where memory is wanting
+short_number : (command : Command) (before after : Outside) (number : ℕ) (Fault : Files → Fetch → Type 0) (line_of : List ℕ → List ℕ)
+    → (6 ≡ number → ⊥) → IsFileStatus command before after 6 number Fault line_of
+short_number command before after number Fault line_of other = record {
+  only = λ is. absurd (other is);
+  where_it_holds = λ _. always _ (λ files fetch reached fault. inr refl) before.shelf.files;
+}
+
+-- where another file gave no bytes first, for another cause
+late_number : (command : Command) (before after : Outside) (first : FetchFault) (status number : ℕ) (Fault : Files → Fetch → Type 0) (line_of : List ℕ → List ℕ)
+    → (status ≡ number → ⊥) → GivesNone command before after first
+    → ((files : Files) (fetch : Fetch) → UnreadWhy first files fetch → IsHeld files fetch → ⊥)
+    → ((files : Files) (fetch : Fetch) → Fault files fetch → IsHeld files fetch → ⊥)
+    → ((files : Files) (fetch : Fetch) → UnreadWhy first files fetch → Fault files fetch → ⊥)
+    → IsFileStatus command before after status number Fault line_of
+late_number command before after first status number Fault line_of other none unheld unheld_too apart = record {
+  only = λ is. absurd (other is);
+  where_it_holds = λ _. IfSome-weaker _ _ (λ files why fetch reached fault. absurd (
+      let same = one_reached command files none.fetch fetch why.0 reached (unheld files none.fetch why.1) (unheld_too files fetch fault) in
+      apart files fetch (subst (UnreadWhy first files) same why.1) fault
+      )) before.shelf.files none.why;
+}
+
+-- ---- each end
+
+done_with : (command : Command) (before after : Outside) (served : List RoundRows) → EndsDone command before after served → EndsWith command before after served 0
+done_with command before after served ends = record {
+  done = λ _. given_weaker (fetches command) before.shelf.files _ _ (λ files made. (ends.output, made.is, ends.takes)) ends.made;
+  missing = other_number command before after 0 3 IsMissing missing_line (λ is. omega (arith, is)) missing_unheld ends.fetched.held;
+  too_long = other_number command before after 0 7 IsTooLong long_line (λ is. omega (arith, is)) long_unheld ends.fetched.held;
+  read = λ is. absurd (omega (arith, is));
+  failed = λ less. absurd (not_less before.shelf.faults after.shelf.faults ends.fetched.quiet less);
+  refused = λ number. absurd (omega (arith, number.0));
+  refuses = λ refusal given why. absurd (
+      given_both (fetches command) before.shelf.files _ _ _ (known_of command before after given) ends.made why (λ files made refuses. made.unrefused refusal refuses)
+      );
+  unwritten = λ is. absurd (omega (arith, is));
+  memory = λ is. absurd (omega (arith, is));
+  complete = λ given quiet none. inl refl;
+}
+
+unwritten_with : (command : Command) (before after : Outside) (served : List RoundRows) → EndsUnwritten command before after served → EndsWith command before after served 5
+unwritten_with command before after served ends = record {
+  done = λ is. absurd (omega (arith, is));
+  missing = other_number command before after 5 3 IsMissing missing_line (λ is. omega (arith, is)) missing_unheld ends.fetched.held;
+  too_long = other_number command before after 5 7 IsTooLong long_line (λ is. omega (arith, is)) long_unheld ends.fetched.held;
+  read = λ is. absurd (omega (arith, is));
+  failed = λ less. absurd (not_less before.shelf.faults after.shelf.faults ends.fetched.quiet less);
+  refused = λ number. absurd (omega (arith, number.0));
+  refuses = λ refusal given why. absurd (
+      given_both (fetches command) before.shelf.files _ _ _ (known_of command before after given) ends.made why (λ files made refuses. made.unrefused refusal refuses)
+      );
+  unwritten = λ _. (ends.rose, given_weaker (fetches command) before.shelf.files _ _ (λ files made. (ends.output, made.is, ends.takes)) ends.made);
+  memory = λ is. absurd (omega (arith, is));
+  complete = λ given quiet none. absurd (not_quiet before.sink.faults after.sink.faults quiet ends.rose);
+}
+
+short_with : (command : Command) (before after : Outside) (served : List RoundRows) → (Tells before.sink after.sink memory_line) → EndsWith command before after served 6
+short_with command before after served told = record {
+  done = λ is. absurd (omega (arith, is));
+  missing = short_number command before after 3 IsMissing missing_line (λ is. omega (arith, is));
+  too_long = short_number command before after 7 IsTooLong long_line (λ is. omega (arith, is));
+  read = λ is. absurd (omega (arith, is));
+  failed = λ less. inr refl;
+  refused = λ number. absurd (omega (arith, number.0));
+  refuses = λ refusal given why. inr refl;
+  unwritten = λ is. absurd (omega (arith, is));
+  memory = λ _. told;
+  complete = λ given quiet none. inr refl;
+}
+
+-- all refusals have the number 10
+is_ten : (refusal : Refusal) → refusal_number refusal ≡ 10
+is_ten (refusals.Text fault) = refl
+is_ten (refusals.Word at why) = refl
+is_ten (refusals.Units fault) = refl
+is_ten refusals.NoHistory = refl
+is_ten (refusals.Line fault) = refl
+
+refused_with : (command : Command) (before after : Outside) (served : List RoundRows) (refusal : Refusal) → EndsRefused command before after served refusal
+    → EndsWith command before after served (refusal_number refusal)
+refused_with command before after served refusal ends =
+    let ten = is_ten refusal in
+    record {
+      done = λ is. absurd (omega (arith, ten, is));
+      missing = other_number command before after _ 3 IsMissing missing_line (λ is. omega (arith, ten, is)) missing_unheld ends.fetched.held;
+      too_long = other_number command before after _ 7 IsTooLong long_line (λ is. omega (arith, ten, is)) long_unheld ends.fetched.held;
+      read = λ is. absurd (omega (arith, ten, is));
+      failed = λ less. absurd (not_less before.shelf.faults after.shelf.faults ends.fetched.quiet less);
+      refused = λ number. record { refusal = refusal; number = refl; why = ends.why; fetched = ends.fetched.held; quiet = ends.fetched.quiet; told = ends.told };
+      refuses = λ other given why. inl (ten ∙ sym (is_ten other));
+      unwritten = λ is. absurd (omega (arith, ten, is));
+      memory = λ is. absurd (omega (arith, ten, is));
+      complete = λ given quiet none. absurd (none refusal ends.why);
+    }
+
+unread_with : (command : Command) (before after : Outside) (served : List RoundRows) (fault : FetchFault) → GivesNone command before after fault
+    → EndsWith command before after served (unread_number fault)
+unread_with command before after served faults.Missing none =
+    let quiet : after.shelf.faults ≡ before.shelf.faults = none.cause.kept (λ is. cc) in
+    record {
+      done = λ is. absurd (omega (arith, is));
+      missing = record {
+        only = λ _. record { fetch = none.fetch; one = none.one; fault = none.why; quiet = λ _. quiet; told = none.told };
+        where_it_holds = λ _. always _ (λ files fetch reached fault. inl refl) before.shelf.files;
+      };
+      too_long = late_number command before after faults.Missing 3 7 IsTooLong long_line (λ is. omega (arith, is)) none missing_unheld long_unheld not_both;
+      read = λ is. absurd (omega (arith, is));
+      failed = λ less. absurd (not_less before.shelf.faults after.shelf.faults quiet less);
+      refused = λ number. absurd (omega (arith, number.0));
+      refuses = λ refusal given why. absurd (unread_given command before after faults.Missing none missing_unheld given);
+      unwritten = λ is. absurd (omega (arith, is));
+      memory = λ is. absurd (omega (arith, is));
+      complete = λ given quiet_sink free. absurd (unread_given command before after faults.Missing none missing_unheld given);
+    }
+unread_with command before after served faults.TooLong none =
+    let quiet : after.shelf.faults ≡ before.shelf.faults = none.cause.kept (λ is. cc) in
+    record {
+      done = λ is. absurd (omega (arith, is));
+      missing = late_number command before after faults.TooLong 7 3 IsMissing missing_line (λ is. omega (arith, is)) none long_unheld missing_unheld
+          (λ files fetch long missing. not_both files fetch missing long);
+      too_long = record {
+        only = λ _. record { fetch = none.fetch; one = none.one; fault = none.why; quiet = λ _. quiet; told = none.told };
+        where_it_holds = λ _. always _ (λ files fetch reached fault. inl refl) before.shelf.files;
+      };
+      read = λ is. absurd (omega (arith, is));
+      failed = λ less. absurd (not_less before.shelf.faults after.shelf.faults quiet less);
+      refused = λ number. absurd (omega (arith, number.0));
+      refuses = λ refusal given why. absurd (unread_given command before after faults.TooLong none long_unheld given);
+      unwritten = λ is. absurd (omega (arith, is));
+      memory = λ is. absurd (omega (arith, is));
+      complete = λ given quiet_sink free. absurd (unread_given command before after faults.TooLong none long_unheld given);
+    }
+unread_with command before after served faults.Failed none =
+    let rose : Rose before.shelf.faults after.shelf.faults = none.cause.failed refl in
+    let loud : Quiet before.shelf.faults after.shelf.faults → ⊥ = λ quiet. not_quiet before.shelf.faults after.shelf.faults quiet rose in
+    let ungiven : IsGiven command before after → ⊥ =
+    λ given. elim given [ inl nothing ↦ none_in (fetches command) none.fetch nothing none.one | inr both ↦ loud both.1 ] in
+    record {
+      done = λ is. absurd (omega (arith, is));
+      missing = record { only = λ is. absurd (omega (arith, is)); where_it_holds = λ quiet. absurd (loud quiet) };
+      too_long = record { only = λ is. absurd (omega (arith, is)); where_it_holds = λ quiet. absurd (loud quiet) };
+      read = λ _. record {
+        fetch = none.fetch;
+        one = none.one;
+        reached = IfSome-weaker _ _ (λ files why. why.0) before.shelf.files none.why;
+        rose = rose;
+        told = none.told;
+      };
+      failed = λ less. inl refl;
+      refused = λ number. absurd (omega (arith, number.0));
+      refuses = λ refusal given why. absurd (ungiven given);
+      unwritten = λ is. absurd (omega (arith, is));
+      memory = λ is. absurd (omega (arith, is));
+      complete = λ given quiet_sink free. absurd (ungiven given);
+    }
+unread_with command before after served faults.NoMemory none = short_with command before after served none.told
+
+pub ends_with : (command : Command) (before after : Outside) (served : List RoundRows) (ending : Ending) → Ends command before after served ending
+    → EndsWith command before after served (ending_number ending)
+ends_with command before after served endings.Done ends = done_with command before after served ends
+ends_with command before after served (endings.Unread fault) ends = unread_with command before after served fault ends
+ends_with command before after served (endings.Refused refusal) ends = refused_with command before after served refusal ends
+ends_with command before after served endings.Unwritten ends = unwritten_with command before after served ends
+ends_with command before after served endings.NoMemory ends = short_with command before after served ends.told
+
+-- ---- the outcome of a call
+
+is_known : (ending : Ending) → Contains statuses (ending_number ending)
+is_known endings.Done = (0, lit< tt, refl)
+is_known (endings.Unread faults.Missing) = (2, lit< tt, refl)
+is_known (endings.Unread faults.Failed) = (3, lit< tt, refl)
+is_known (endings.Unread faults.TooLong) = (6, lit< tt, refl)
+is_known (endings.Unread faults.NoMemory) = (5, lit< tt, refl)
+is_known (endings.Refused refusal) = subst (Contains statuses) (sym (is_ten refusal)) (7, lit< tt, refl)
+is_known endings.Unwritten = (4, lit< tt, refl)
+is_known endings.NoMemory = (5, lit< tt, refl)
+
+not_words : (ending : Ending) → ending_number ending ≡ 2 → ⊥
+not_words endings.Done is = omega (arith, is)
+not_words (endings.Unread faults.Missing) is = omega (arith, is)
+not_words (endings.Unread faults.Failed) is = omega (arith, is)
+not_words (endings.Unread faults.TooLong) is = omega (arith, is)
+not_words (endings.Unread faults.NoMemory) is = omega (arith, is)
+not_words (endings.Refused refusal) is = omega (arith, is_ten refusal, is)
+not_words endings.Unwritten is = omega (arith, is)
+not_words endings.NoMemory is = omega (arith, is)
+
+-- of words that are of a form
+pub command_outcome : (words : List (List ℕ)) (command : Command) (before after : Outside) (served : List RoundRows) (ending : Ending) → IsForm words command
+    → after.shelf.files ≡ before.shelf.files → Ends command before after served ending → IsOutcome words before after served (ending_number ending)
+command_outcome words command before after served ending form same ends = record {
+  no_form = record { only = λ two. absurd (not_words ending two); where_it_holds = λ none. absurd (none command form) };
+  words_told = λ two. absurd (not_words ending two);
+  ends = λ other is. subst (λ c. EndsWith c before after served (ending_number ending)) (one_form words command other form is) (ends_with command before after served ending ends);
+  known = is_known ending;
+  same = same;
+}
+
+-- of words that are of none
+pub words_outcome : (words : List (List ℕ)) (before after : Outside) (served : List RoundRows) → HasNoForm words
+    → after.shelf.files ≡ before.shelf.files → Tells before.sink after.sink words_line → IsOutcome words before after served 2
+words_outcome words before after served none same told = record {
+  no_form = record { only = λ _. none; where_it_holds = λ _. inl refl };
+  words_told = λ _. told;
+  ends = λ command form. absurd (none command form);
+  known = (1, lit< tt, refl);
+  same = same;
+}

@@ -4,9 +4,10 @@ use Rattle.std.specs.Prelude.{All, slice_get, codes}
 use Rattle.std.proofs.lemmas.Option.{same_Some, none-some}
 use Rattle.reg_top.specs.declared.words.SideWord.{SideWord}
 use Rattle.reg_top.specs.declared.words.SideWord.TheVariants as side
-use Rattle.reg_top.specs.Words.{Command, HasOneFile, HasOneValue, HasTexts, IsValue, IsForm, IsSideCommand, side_text, plan_of}
-use Rattle.reg_top.specs.Words.Command.{Run, Explain, Compose, Instance, Check}
-use Rattle.reg_top.specs.Statuses.{HasNoForm}
+use Rattle.reg_top.specs.Fetches.{Command}
+use Rattle.reg_top.specs.Words.{HasOneFile, HasOneValue, HasTexts, IsValue, IsForm, IsSideCommand, side_text, plan_of}
+use Rattle.reg_top.specs.Fetches.Command.{Run, Explain, Compose, Instance, Check}
+use Rattle.reg_top.specs.Outcomes.{HasNoForm}
 
 -- the first word of a command
 abbrev pub first_text : Command → List ℕ

@@ -6,7 +6,9 @@ pub mod OneRound
 pub mod Forms
 pub mod Endings
 pub mod Compositions
-pub mod Causes
 pub mod SavedLines
-pub mod CheckedFiles
+pub mod Parts
+pub mod Makings
+pub mod Runs
+pub mod LoneRuns
 pub mod WorkedCheck

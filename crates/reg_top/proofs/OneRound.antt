@@ -11,10 +11,10 @@ use Rattle.reg_model.specs.declared.call.Call.{Call}
 use Rattle.reg_model.specs.declared.round.Round.{Round}
 use Rattle.reg_model.specs.Merge.{AreAccounts}
 use Rattle.reg_model.specs.Limits.{Limits, usual_limits}
-use Rattle.reg_model.specs.Rows.{session_rows, IsLawful, IsMerge}
+use Rattle.reg_model.specs.Rows.{session_rows, IsLawful, AsksLogFirst, IsMerge}
 use Rattle.reg_model.proofs.LawfulOrder.{lone_accounts, lone_merge}
 use Rattle.reg_history.specs.Rounds.{AreRoundsOf}
-use Rattle.reg_top.specs.LoneRounds.{IsLoneRound}
+use Rattle.reg_top.specs.inner.LoneRounds.{IsLoneRound}
 use Rattle.reg_model.specs.Runs.{RoundRows, IsLawfulRound, nothing}
 use Rattle.reg_requests.specs.declared.items.Item.{Item}
 use Rattle.reg_session.specs.Files.{Files}
@@ -22,8 +22,9 @@ use Rattle.reg_requests.specs.Lines.{line, spaced}
 use Rattle.reg_requests.specs.Requests.{AreItems, call_in, calls_of}
 use Rattle.reg_model.specs.Calls.{IsRequest}
 use Rattle.reg_history.specs.History.{history_text}
+use Rattle.reg_top.specs.Fetches.{RoundPlan}
 use Rattle.reg_top.specs.Words.{plan_of}
-use Rattle.reg_top.specs.Output.{item_lines, MakesCalls, IsRunOutput}
+use Rattle.reg_top.specs.commands.Run.{item_lines, MakesCalls, IsRunOutput}
 use Rattle.reg_history.specs.lines.Values.{IsDeclaredValue, IsRowValue, IsRunValue}
 use Rattle.reg_history.proofs.RunValues.{round_values}
 
@@ -80,11 +81,12 @@ run_values file list rows short are asked lawful =
 -- the lines of the one session, and the history
 pub run_output : (files : Files) (name file : List ℕ) (list : List Item) (rows : List Row) (output : List ℕ)
     → files name ≡ Some file → length file < 2 ^ 32 → AreRequests file list → map (λ (row : Row). row.call) rows ≡ calls_of list → session_rows 0 rows ≡ rows → IsLawful (usual_limits 1) nothing rows
+    → All (AsksLogFirst (usual_limits 1) nothing) rows
     → output ≡ (line (spaced (codes "replies" ∷ decimal 0 ∷ decimal 0 ∷ [])) ++ item_lines list rows) ++ history_text nothing (record { limits = usual_limits 1; rows = rows } ∷ [])
-    → IsRunOutput nothing (plan_of name) files output
-run_output files name file list rows output held short are asked alone lawful text = record {
+    → IsRunOutput nothing (plan_of name) files (record { limits = usual_limits 1; rows = rows } ∷ []) output
+run_output files name file list rows output held short are asked alone lawful asks text = record {
   items = (list ∷ []) ∷ [];
-  rounds = one_round rows ∷ [];
+  callers = All-cons (λ (p : RoundPlan). p.limits.callers ≡ length p.names) (record { limits = usual_limits 1; names = name ∷ [] }) [] refl (All-nil (λ (p : RoundPlan). p.limits.callers ≡ length p.names));
   read = (((file, held, are.items), tt), tt);
   sizes = refl;
   calls = (made list (usual_limits 1) rows asked alone, tt);
@@ -94,6 +96,7 @@ run_output files name file list rows output held short are asked alone lawful te
     few = lit≤ tt;
     lawful = (round_lawful rows lawful, tt);
   };
+  alone = (λ _. asks, tt);
   values = run_values file list rows short are asked lawful;
   text =
       text

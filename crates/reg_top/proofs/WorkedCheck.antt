@@ -8,7 +8,7 @@ use Rattle.reg_model.specs.Runs.{nothing}
 use Rattle.reg_requests.specs.Lines.{line}
 use Rattle.reg_history.specs.History.{history_text}
 use Rattle.reg_top.specs.SavedHistories.{head, IsSavedHistory}
-use Rattle.reg_top.specs.SideOutput.{IsLawfulLine}
+use Rattle.reg_top.specs.commands.Check.{IsLawfulLine}
 use Rattle.reg_top.proofs.SavedLines.{none, first_or_behind}
 use Rattle.reg_top.proofs.WorkedOutput.{output, round, lawful, values, history}
 

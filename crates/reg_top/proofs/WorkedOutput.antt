@@ -1,5 +1,5 @@
 -- The output of a small run, from the bytes of its file on.
-use Rattle.std.proofs.Common.{◌≡◌, ℕ, zero, suc, List, [], ◌∷◌, ◌++◌, Some, Option, unwrap_or, refl, ap, lit<, lit≤, arith}
+use Rattle.std.proofs.Common.{◌≡◌, ℕ, zero, suc, List, [], ◌∷◌, ◌++◌, length, Some, Option, unwrap_or, refl, ap, lit<, lit≤, arith}
 use Rattle.std.specs.Prelude.{All, codes, bytes_eq, if◌then◌else◌, None}
 use Rattle.std.specs.Fmt.{digits}
 use Rattle.std.proofs.lemmas.List.Elements.{All-nil, All-from_recursion}
@@ -10,8 +10,9 @@ use Rattle.reg_model.proofs.WorkedRows.{usual, hit, two_units, two_units_lawful}
 use Rattle.reg_requests.specs.Lines.{line}
 use Rattle.reg_requests.proofs.WorkedLines.{file, wanted, file_items}
 use Rattle.reg_history.specs.History.{history_text}
-use Rattle.reg_top.specs.Words.{RoundPlan}
-use Rattle.reg_top.specs.Output.{IsRunOutput, MakesCalls}
+use Rattle.reg_model.specs.Rows.{AsksLogFirst}
+use Rattle.reg_top.specs.Fetches.{RoundPlan}
+use Rattle.reg_top.specs.commands.Run.{IsRunOutput, MakesCalls}
 use Rattle.reg_history.specs.lines.Values.{IsDeclaredValue, IsHitValue, IsRowValue, IsRunValue}
 
 abbrev pub output : List ℕ
@@ -94,15 +95,19 @@ values = record {
   );
 }
 
-pub run_output : IsRunOutput nothing plan files output
+asks : All (AsksLogFirst usual nothing) two_units
+asks = All-from_recursion (AsksLogFirst usual nothing) two_units ((λ given full. cc), ((λ given full. cc), ((λ given full. cc), tt)))
+
+pub run_output : IsRunOutput nothing plan files (round ∷ []) output
 unfolding history_text unit_text bits_of digits
 run_output = record {
   items = (wanted ∷ []) ∷ [];
-  rounds = round ∷ [];
+  callers = All-from_recursion (λ (p : RoundPlan). p.limits.callers ≡ length p.names) plan (refl, tt);
   read = (((file, refl, file_items), tt), tt);
   sizes = refl;
   calls = (made, tt);
   lawful = lawful;
+  alone = (λ _. asks, tt);
   values = values;
   text = refl;
 }

@@ -3,8 +3,7 @@ use Rattle.std.proofs.Common.{◌≡◌, ℕ, List, [], ◌++◌, take, drop, Op
 use Rattle.std.specs.Prelude.{IfSome}
 use Rattle.std.proofs.lemmas.List.{take-append-drop}
 use Rattle.reg_session.specs.Faults.{Rose, Quiet}
-use Rattle.reg_top.specs.Output.{TakesWhole, TakesPart}
-use Rattle.reg_top.specs.FaultLines.{Tells}
+use Rattle.reg_session.specs.Outside.{SinkView, sink_view, TakesWhole, TakesPart, Tells}
 
 -- the bytes before the rest are taken, and no fault came
 pub record Written (before now : Option (List ℕ)) (faults_before faults : ℕ) (bytes rest : List ℕ) : Type 0 where
@@ -65,14 +64,14 @@ part_of (Some had) b x y part = (part.0, part.1 ++ y, sym (append_assoc part.0 p
 -- ---- the line of a fault
 
 -- a line whose front is taken, and whose rest is told
-pub tells_then : (a b c : Option (List ℕ)) (was then faults : ℕ) (x y : List ℕ) → TakesWhole a b x → then ≡ was → Tells b c then faults y → Tells a c was faults (x ++ y)
+pub tells_then : (a b c : Option (List ℕ)) (was then faults : ℕ) (x y : List ℕ) → TakesWhole a b x → then ≡ was → Tells (sink_view b then) (sink_view c faults) y → Tells (sink_view a was) (sink_view c faults) (x ++ y)
 tells_then a b c was then faults x y first same rest = record {
   part = part_then a b c x y first rest.part;
   whole = λ quiet. whole_then a b c x y first (rest.whole (subst (λ n. Quiet n faults) (sym same) quiet));
 }
 
 -- a line whose front is cut
-pub tells_cut : (a b : Option (List ℕ)) (was faults : ℕ) (x y : List ℕ) → TakesPart a b x → Rose was faults → Tells a b was faults (x ++ y)
+pub tells_cut : (a b : Option (List ℕ)) (was faults : ℕ) (x y : List ℕ) → TakesPart a b x → Rose was faults → Tells (sink_view a was) (sink_view b faults) (x ++ y)
 tells_cut a b was faults x y part rose = record {
   part = part_of a b x y part;
   whole = λ quiet. absurd (omega (arith, quiet.0, quiet.1, rose));

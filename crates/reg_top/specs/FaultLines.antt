@@ -1,5 +1,5 @@
 -- The line that a fault writes.
-use Rattle.std.specs.Prelude.{◌≡◌, ℕ, List, [], ◌∷◌, ◌++◌, Contains, Option, codes}
+use Rattle.std.specs.Prelude.{ℕ, List, [], ◌∷◌, ◌++◌, codes}
 use Rattle.std.specs.Fmt.{decimal}
 use Rattle.iscc_code.specs.declared.iscc.IsccFault.{IsccFault}
 use Rattle.iscc_code.specs.declared.iscc.IsccFault.TheVariants as codes_faults
@@ -13,15 +13,7 @@ use Rattle.reg_top.specs.declared.refusal.WordFault.{WordFault}
 use Rattle.reg_top.specs.declared.refusal.WordFault.TheVariants as word_faults
 use Rattle.reg_top.specs.declared.refusal.Refusal.{Refusal}
 use Rattle.reg_top.specs.declared.refusal.Refusal.TheVariants as refusals
-use Rattle.reg_top.specs.declared.status.Status.{Status}
-use Rattle.reg_top.specs.declared.status.Status.TheVariants as status
-use Rattle.reg_session.specs.Faults.{Quiet}
-use Rattle.reg_session.specs.Files.{Files}
 use Rattle.reg_requests.specs.Lines.{line, spaced}
-use Rattle.reg_top.specs.Output.{TakesWhole, TakesPart}
-use Rattle.reg_top.specs.Words.{Command, IsForm, fetched_names}
-use Rattle.reg_top.specs.Refusals.{Refuses}
-use Rattle.reg_top.specs.Statuses.{status_number}
 
 -- why bytes encode no ISCC
 abbrev pub iscc_why : IsccFault → List ℕ
@@ -71,49 +63,32 @@ refusal_why (refusals.Units fault) = spaced (codes "compose" ∷ compose_why fau
 refusal_why refusals.NoHistory = spaced (codes "line" ∷ codes "0" ∷ codes "none" ∷ [])
 refusal_why (refusals.Line fault) = spaced (codes "line" ∷ decimal fault.line ∷ line_why fault.why ∷ [])
 
--- a status and the name of the file that it tells, if it tells one
-abbrev pub status_text : Status → List ℕ → List ℕ
-status_text status.Words name = codes "fault 2 words"
-status_text status.Missing name = codes "fault 3 missing " ++ name
-status_text status.Read name = codes "fault 4 read " ++ name
-status_text status.Memory name = codes "fault 6 memory"
-status_text status.TooLong name = codes "fault 7 too long " ++ name
-status_text (status.Refused why) name = codes "fault 10 " ++ refusal_why why
-status_text other name = []
+-- the status of a refusal
+abbrev pub refusal_number : Refusal → ℕ
+refusal_number (refusals.Text fault) = 10
+refusal_number (refusals.Word at why) = 10
+refusal_number (refusals.Units fault) = 10
+refusal_number refusals.NoHistory = 10
+refusal_number (refusals.Line fault) = 10
 
--- a line tells the status
-abbrev pub IsTold : Status → Type 0
-IsTold status.Done = ⊥
-IsTold status.Write = ⊥
-IsTold other = Unit {0}
+-- its line, with that number
+abbrev pub refusal_line : Refusal → List ℕ
+refusal_line refusal = line (codes "fault " ++ (decimal (refusal_number refusal) ++ (codes " " ++ refusal_why refusal)))
 
--- the text is the line of a status with the name of a file that the command fetches
-abbrev pub NamesFile : Command → Status → List ℕ → Type 0
-NamesFile command which text = (name : List ℕ) × Contains (fetched_names command) name × (text ≡ line (status_text which name))
+-- the line of words that are of no form
+abbrev pub words_line : List ℕ
+words_line = line (codes "fault 2 words")
 
--- the text is the line that tells a status of this command
-abbrev pub IsCommandLine : Command → Option Files → Status → List ℕ → Type 0
-IsCommandLine command files status.Missing text = NamesFile command status.Missing text
-IsCommandLine command files status.Read text = NamesFile command status.Read text
-IsCommandLine command files status.TooLong text = NamesFile command status.TooLong text
-IsCommandLine command files status.Memory text = text ≡ line (status_text status.Memory [])
-IsCommandLine command files (status.Refused why) text = Refuses command files why × (text ≡ line (status_text (status.Refused why) []))
-IsCommandLine command files other text = ⊥
+-- the lines of a file with this name that isn't there, that couldn't be read, or that is too long
+abbrev pub missing_line : List ℕ → List ℕ
+missing_line name = line (codes "fault 3 missing " ++ name)
 
--- the line of a status, where the words are these, and the files those of the shelf
-abbrev pub IsLineOf : List (List ℕ) → Option Files → Status → List ℕ → Type 0
-IsLineOf words files status.Words text = text ≡ line (status_text status.Words [])
-IsLineOf words files other text = (command : Command) × IsForm words command × IsCommandLine command files other text
+abbrev pub read_line : List ℕ → List ℕ
+read_line name = line (codes "fault 4 read " ++ name)
 
--- a sink has taken a front of a line, and the whole of it where no fault came
-pub record Tells (before after : Option (List ℕ)) (was faults : ℕ) (text : List ℕ) : Type 0 where
-  pub part : TakesPart before after text
-  pub whole : Quiet was faults → TakesWhole before after text
+abbrev pub long_line : List ℕ → List ℕ
+long_line name = line (codes "fault 7 too long " ++ name)
 
--- it has taken the line of this status
-pub record TellsStatus (words : List (List ℕ)) (files : Option Files) (number : ℕ) (before after : Option (List ℕ)) (was faults : ℕ) : Type 0 where
-  pub which : Status
-  pub same : number ≡ status_number which
-  pub text : List ℕ
-  pub is : IsLineOf words files which text
-  pub told : Tells before after was faults text
+-- the line of a call for which memory is wanting
+abbrev pub memory_line : List ℕ
+memory_line = line (codes "fault 6 memory")

@@ -33,7 +33,3 @@ pub record HasFaultyHistory (file : List ℕ) (fault : CheckFault) : Type 0 wher
   pub text : List ℕ
   pub saved : IsSavedHistory file text
   pub faulty : HasLineFault text fault.line fault.why
-
--- it isn't both
-abbrev pub IsOneSided : List ℕ → Type 0
-IsOneSided file = (rows live : ℕ) (fault : CheckFault) → HasLawfulHistory file rows live → HasFaultyHistory file fault → ⊥

@@ -1,31 +1,11 @@
 -- The words of a command line.
-use Rattle.std.specs.List.{flat_map}
 use Rattle.std.specs.Prelude.{◌⊎◌, ◌≡◌, ◌≢◌, ℕ, ◌<◌, List, [], ◌∷◌, ◌++◌, length, codes, slice_get, All, Some}
 use Rattle.reg_requests.specs.Numbers.{IsNumber}
-use Rattle.reg_model.specs.Limits.{Limits, usual_limits}
+use Rattle.reg_model.specs.Limits.{usual_limits}
+use Rattle.reg_top.specs.Fetches.{RoundPlan, Command}
+use Rattle.reg_top.specs.Fetches.Command.{Run, Explain, Compose, Instance, Check}
 use Rattle.reg_top.specs.declared.words.SideWord.{SideWord}
 use Rattle.reg_top.specs.declared.words.SideWord.TheVariants as side
-
--- a round's sizes, and the names of its sessions' files
-pub record RoundPlan : Type 0 where
-  pub limits : Limits
-  pub names : List (List ℕ)
-
--- what a command line asks: to serve the files of some rounds, to explain a text, to compose the units of some texts, to give
--- the Instance-Code of a file, or to check the history that is saved in a file
-pub data Command : Type 0 where
-  Run : List RoundPlan → Command
-  Explain : List ℕ → Command
-  Compose : List (List ℕ) → Command
-  Instance : List ℕ → Command
-  Check : List ℕ → Command
-
--- the names of the files that a command fetches, in order
-abbrev pub fetched_names : Command → List (List ℕ)
-fetched_names (Run plan) = flat_map (λ round. round.names) plan
-fetched_names (Instance name) = name ∷ []
-fetched_names (Check name) = name ∷ []
-fetched_names command = []
 
 -- a word that isn't empty and doesn't begin with `-`
 abbrev pub IsValue : List ℕ → Type 0

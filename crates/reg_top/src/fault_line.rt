@@ -1,37 +1,63 @@
 ghost use Rattle.std.specs.Prelude.{◌≡◌, [], ◌∷◌, ◌++◌, codes};
 ghost use Rattle.std.specs.Fmt.{decimal};
 ghost use Rattle.reg_requests.specs.Lines.{line, spaced};
-ghost use Rattle.reg_top.specs.FaultLines.{Tells, IsTold, status_text, refusal_why, text_why, word_why, iscc_why, compose_why, line_why};
+ghost use Rattle.reg_session.specs.Outside.{Tells, sink_view};
+ghost use Rattle.reg_top.specs.FaultLines.{words_line, refusal_line, text_why, word_why, iscc_why, compose_why, line_why};
+ghost use Rattle.reg_top.specs.inner.Endings.{unread_line, declined_line, declined_ending};
 
+use crate::ending::{Declined, Ending, WORDS};
 use crate::refusal::{Refusal, WordFault};
-use crate::status::Status;
 use crate::write::{write_all, write_two};
 use iscc_code::{ComposeFault, IsccFault};
 use iscc_text::TextFault;
 use itoa::Buffer;
 use reg_history::{CheckFault, CheckWhy};
-use reg_session::{Failed, Sink};
+use reg_session::{Failed, FetchFault, Sink};
 
-/// Writes the line that tells a status, with the name of a file where it tells one. Takes no memory.
+/// Tells that the words are of no form, and answers that status. Takes no memory, as no function here does.
 ///
-/// It is written as far as the sink takes it: a fault of the sink changes no status.
-pub(crate) fn tell_status<K: Sink>(sink: &mut K, status: Status, name: &str)
-    ensures { IsTold status → Tells (K.taken sink.old) (K.taken sink.new) (K.faults sink.old) (K.faults sink.new) (line (status_text status name.now)) }
+/// A line is written as far as the sink takes it: a fault of the sink changes no status.
+pub(crate) fn no_form<K: Sink>(sink: &mut K) -> u8
+    ensures status { result ≡ 2 }
+    ensures told { Tells (sink_view (K.taken sink.old) (K.faults sink.old)) (sink_view (K.taken sink.new) (K.faults sink.new)) words_line }
 {
-    match status {
-        Status::Words => tell(sink, b"fault 2 words", b""),
-        Status::Missing => tell(sink, b"fault 3 missing ", name.as_bytes()),
-        Status::Read => tell(sink, b"fault 4 read ", name.as_bytes()),
-        Status::Memory => tell(sink, b"fault 6 memory", b""),
-        Status::TooLong => tell(sink, b"fault 7 too long ", name.as_bytes()),
-        Status::Refused(why) => tell_refusal(sink, why),
-        Status::Done => {}
-        Status::Write => {}
+    tell(sink, b"fault 2 words", b"");
+    WORDS
+}
+
+/// Tells why the file with this name gave no bytes.
+pub(crate) fn unread<K: Sink>(sink: &mut K, fault: FetchFault, name: &str) -> Ending
+    ensures ending { result ≡ Ending.Unread fault }
+    ensures told { Tells (sink_view (K.taken sink.old) (K.faults sink.old)) (sink_view (K.taken sink.new) (K.faults sink.new)) (unread_line fault name.now) }
+{
+    match fault {
+        FetchFault::Missing => tell(sink, b"fault 3 missing ", name.as_bytes()),
+        FetchFault::Failed => tell(sink, b"fault 4 read ", name.as_bytes()),
+        FetchFault::TooLong => tell(sink, b"fault 7 too long ", name.as_bytes()),
+        FetchFault::NoMemory => tell(sink, b"fault 6 memory", b""),
+    }
+    Ending::Unread(fault)
+}
+
+/// Tells why what a command is given makes no output.
+pub(crate) fn declined<K: Sink>(sink: &mut K, why: Declined) -> Ending
+    ensures ending { result ≡ declined_ending why }
+    ensures told { Tells (sink_view (K.taken sink.old) (K.faults sink.old)) (sink_view (K.taken sink.new) (K.faults sink.new)) (declined_line why) }
+{
+    match why {
+        Declined::Refused(refusal) => {
+            tell_refusal(sink, refusal);
+            Ending::Refused(refusal)
+        }
+        Declined::NoMemory => {
+            tell(sink, b"fault 6 memory", b"");
+            Ending::NoMemory
+        }
     }
 }
 
 fn tell_refusal<K: Sink>(sink: &mut K, why: Refusal)
-    ensures { Tells (K.taken sink.old) (K.taken sink.new) (K.faults sink.old) (K.faults sink.new) (line (codes "fault 10 " ++ refusal_why why)) }
+    ensures { Tells (sink_view (K.taken sink.old) (K.faults sink.old)) (sink_view (K.taken sink.new) (K.faults sink.new)) (refusal_line why) }
 {
     match why {
         Refusal::Text(fault) => tell_text(sink, fault),
@@ -43,7 +69,7 @@ fn tell_refusal<K: Sink>(sink: &mut K, why: Refusal)
 }
 
 fn tell_text<K: Sink>(sink: &mut K, fault: TextFault)
-    ensures { Tells (K.taken sink.old) (K.taken sink.new) (K.faults sink.old) (K.faults sink.new) (line (codes "fault 10 " ++ spaced (codes "text" ∷ text_why fault ∷ []))) }
+    ensures { Tells (sink_view (K.taken sink.old) (K.faults sink.old)) (sink_view (K.taken sink.new) (K.faults sink.new)) (line (codes "fault 10 " ++ spaced (codes "text" ∷ text_why fault ∷ []))) }
 {
     if let Err(Failed) = write_all(sink, b"fault 10 text") {
         return;
@@ -52,7 +78,7 @@ fn tell_text<K: Sink>(sink: &mut K, fault: TextFault)
 }
 
 fn tell_word<K: Sink>(sink: &mut K, at: usize, why: WordFault)
-    ensures { Tells (K.taken sink.old) (K.taken sink.new) (K.faults sink.old) (K.faults sink.new)
+    ensures { Tells (sink_view (K.taken sink.old) (K.faults sink.old)) (sink_view (K.taken sink.new) (K.faults sink.new))
         (line (codes "fault 10 " ++ spaced (codes "word" ∷ decimal at ∷ word_why why ∷ []))) }
 {
     let mut buffer = Buffer::new();
@@ -63,7 +89,7 @@ fn tell_word<K: Sink>(sink: &mut K, at: usize, why: WordFault)
 }
 
 fn tell_line<K: Sink>(sink: &mut K, fault: CheckFault)
-    ensures { Tells (K.taken sink.old) (K.taken sink.new) (K.faults sink.old) (K.faults sink.new)
+    ensures { Tells (sink_view (K.taken sink.old) (K.faults sink.old)) (sink_view (K.taken sink.new) (K.faults sink.new))
         (line (codes "fault 10 " ++ spaced (codes "line" ∷ decimal fault.line ∷ line_why fault.why ∷ []))) }
 {
     let mut buffer = Buffer::new();
@@ -79,7 +105,7 @@ fn tell_line<K: Sink>(sink: &mut K, fault: CheckFault)
 
 // The end of a line, with a space and the fault of a word.
 fn tell_word_fault<K: Sink>(sink: &mut K, why: WordFault)
-    ensures { Tells (K.taken sink.old) (K.taken sink.new) (K.faults sink.old) (K.faults sink.new) (line (codes " " ++ word_why why)) }
+    ensures { Tells (sink_view (K.taken sink.old) (K.faults sink.old)) (sink_view (K.taken sink.new) (K.faults sink.new)) (line (codes " " ++ word_why why)) }
 {
     match why {
         WordFault::Text(fault) => tell_text_fault(sink, fault),
@@ -89,7 +115,7 @@ fn tell_word_fault<K: Sink>(sink: &mut K, why: WordFault)
 
 // The end of a line, with a space and the fault of a text.
 fn tell_text_fault<K: Sink>(sink: &mut K, fault: TextFault)
-    ensures { Tells (K.taken sink.old) (K.taken sink.new) (K.faults sink.old) (K.faults sink.new) (line (codes " " ++ text_why fault)) }
+    ensures { Tells (sink_view (K.taken sink.old) (K.faults sink.old)) (sink_view (K.taken sink.new) (K.faults sink.new)) (line (codes " " ++ text_why fault)) }
 {
     match fault {
         TextFault::Scheme => tell(sink, b" scheme", b""),
@@ -144,7 +170,7 @@ fn line_fault(why: CheckWhy) -> &'static [u8]
 
 // Writes the rest of a line in two parts, as far as the sink takes it.
 fn tell<K: Sink>(sink: &mut K, front: &[u8], rest: &[u8])
-    ensures { Tells (K.taken sink.old) (K.taken sink.new) (K.faults sink.old) (K.faults sink.new) (line (front.now ++ rest.now)) }
+    ensures { Tells (sink_view (K.taken sink.old) (K.faults sink.old)) (sink_view (K.taken sink.new) (K.faults sink.new)) (line (front.now ++ rest.now)) }
 {
     if let Err(Failed) = write_all(sink, front) {
         return;
@@ -153,7 +179,7 @@ fn tell<K: Sink>(sink: &mut K, front: &[u8], rest: &[u8])
 }
 
 fn tell_rest<K: Sink>(sink: &mut K, rest: &[u8])
-    ensures { Tells (K.taken sink.old) (K.taken sink.new) (K.faults sink.old) (K.faults sink.new) (line rest.now) }
+    ensures { Tells (sink_view (K.taken sink.old) (K.faults sink.old)) (sink_view (K.taken sink.new) (K.faults sink.new)) (line rest.now) }
 {
     let _ = write_two(sink, rest, b"\n");
 }

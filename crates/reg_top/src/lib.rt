@@ -1,36 +1,33 @@
-//! The top call: it reads the words of a command line, fetches the request files from a shelf, serves their calls,
-//! and writes replies and one history of all calls to a sink.
+//! The top call: it reads the words of a command line, fetches the files that they name from a shelf, does the command, and
+//! writes its output, or the line of a fault, to a sink.
 //!
-//! It stands on `reg_session`, which has shelf and sink, on `reg_requests`, which reads request lines and prints replies, on `reg_history`, which prints and checks
-//! histories, on `reg_model`, and on `iscc_text`, `iscc_code` and `iscc_instance`; `iscc_registry` calls `top` with the real shelf and sink, tests call it with those in
-//! memory. The way of a request: `words` (what is asked), `fetch` (a file's bytes), `serve` (calls to rows), `replies`
-//! (rows to text), `run` (all of it, and the statuses), `write` (bytes to the sink), `fault_line` (the line of a
-//! status). `side_commands` has the commands that serve no calls, each in a file of its own. `specs/CommandOutput.antt`
-//! says what each command writes, `specs/Statuses.antt` when each status comes, `specs/FaultLines.antt` the line that tells
-//! it, and `specs/Ends.antt` all of this in one record.
+//! It stands on `reg_session`, which has shelf and sink, on `reg_requests` and `reg_history`, which read and print texts, on
+//! `reg_model`, and on the crates of ISCCs. `iscc_registry` calls `top` with the real shelf and sink, tests with those in memory.
+//! The way of a request: `words` (what is asked), `fetch` (a file's bytes), a file of `commands` (what is made of it), `write`
+//! (bytes to the sink), `fault_line` (the line of a fault), `ending` (the status). `specs/Fetches.antt` says what each command
+//! fetches, a file of `specs/commands/` what it writes and refuses, and `specs/Outcomes.antt` how every call ends, and why.
 #![tactic(auto)]
 
 mod args;
-mod check_command;
-mod compose_command;
-mod explain_command;
+mod commands;
+mod ending;
 mod fault_line;
 mod fetch;
-mod instance_command;
+mod laws;
 mod refusal;
 mod replies;
-mod run;
 mod saved_history;
 mod serve;
 mod side_commands;
-mod status;
+mod top_call;
 mod words;
 mod write;
 
 pub use args::Args;
+pub use laws::a_lone_plan_has_one_output;
 pub use reg_session::{Failed, FetchFault, ListShelf, ListSink, Shelf, Sink, SureShelf, SureSink};
-pub use run::top;
 pub use side_commands::side;
+pub use top_call::top;
 
 #[cfg(test)]
 mod tests;

@@ -1,3 +1,6 @@
+ghost use Rattle.std.specs.Prelude.{◌≡◌};
+ghost use Rattle.reg_top.specs.FaultLines.{refusal_number};
+
 use iscc_code::ComposeFault;
 use iscc_text::TextFault;
 use reg_history::CheckFault;
@@ -24,4 +27,19 @@ pub enum Refusal {
     NoHistory,
     /// This line of the history in the file, counted from 1, is the first that can't stand.
     Line(CheckFault),
+}
+
+impl Refusal {
+    /// The status of a refusal.
+    pub(crate) fn number(self) -> u8
+        ensures { result ≡ refusal_number self }
+    {
+        match self {
+            Refusal::Text(_) => 10,
+            Refusal::Word { .. } => 10,
+            Refusal::Units(_) => 10,
+            Refusal::NoHistory => 10,
+            Refusal::Line(_) => 10,
+        }
+    }
 }

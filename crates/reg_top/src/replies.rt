@@ -2,7 +2,7 @@ ghost use Rattle.std.specs.Prelude.{◌≡◌, ◌∷◌, ◌++◌, [], List, On
 ghost use Rattle.std.specs.Fmt.{decimal};
 ghost use Rattle.reg_requests.specs.Lines.{line, spaced};
 ghost use Rattle.reg_requests.specs.declared.items.Item.{Item as AnItem};
-ghost use Rattle.reg_top.specs.Output.{item_lines};
+ghost use Rattle.reg_top.specs.commands.Run.{item_lines};
 
 use iscc_header::NoMemory;
 use reg_model::{Call, Row};

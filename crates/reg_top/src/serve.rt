@@ -1,6 +1,8 @@
-ghost use Rattle.std.specs.Prelude.{◌≡◌, ◌<◌, ◌≤◌, ◌^◌, [], All, IfOk, length, map};
+ghost use Rattle.std.specs.Prelude.{◌≡◌, ◌<◌, ◌≤◌, ◌^◌, ℕ, [], All, IfOk, length, map};
 ghost use Rattle.reg_model.specs.Registry.{Serves};
-ghost use Rattle.reg_model.specs.Rows.{IsLawful, log_of, session_rows};
+ghost use Rattle.reg_model.specs.Rows.{IsLawful, AsksLogFirst, log_of, session_rows};
+ghost use Rattle.reg_model.specs.declared.reply.Reply.TheVariants.{Full};
+ghost use Rattle.reg_model.specs.declared.reply.FullCause.TheVariants.{Entries};
 ghost use Rattle.reg_model.specs.Calls.{IsRequest};
 
 use iscc_header::NoMemory;
@@ -14,6 +16,7 @@ pub(crate) fn serve(alloc: Global, plain: &mut Plain, calls: &[Call]) -> Result<
     requires empty { plain.old.log ≡ [] }
     requires callers { 1 ≤ plain.old.limits.callers }
     ensures lawful { IfOk result (λ rows. IsLawful plain.old.limits plain.old.opening rows.items) }
+    ensures asks { IfOk result (λ rows. All (AsksLogFirst plain.old.limits plain.old.opening) rows.items) }
     ensures alone { IfOk result (λ rows. session_rows 0 rows.items ≡ rows.items) }
     ensures calls { IfOk result (λ rows. map (λ row. row.call) rows.items ≡ calls.now) }
     ensures log { IfOk result (λ rows. plain.new ≡ record plain.old { log = log_of rows.items }) }
@@ -35,7 +38,10 @@ pub(crate) fn serve(alloc: Global, plain: &mut Plain, calls: &[Call]) -> Result<
 
 fn serve_call(alloc: Global, plain: &mut Plain, call: &Call) -> Result<Answer, NoMemory>
     requires { IsRequest call.now }
-    ensures { IfOk result (λ answer. Serves plain.old call.now answer plain.new) }
+    ensures serves { IfOk result (λ answer. Serves plain.old call.now answer plain.new) }
+
+    // The log is asked before the entries.
+    ensures asks { IfOk result (λ answer. (given : ℕ) → answer.reply ≡ Full (Entries given) → length plain.old.log < plain.old.limits.log) }
 {
     match *call {
         Call::Declare(unit) => Ok(plain.declare(unit)),

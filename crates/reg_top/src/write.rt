@@ -1,10 +1,8 @@
 ghost use Rattle.std.specs.Prelude.{◌≡◌, ◌++◌, IsErr, MatchResult};
 ghost use Rattle.reg_session.specs.Faults.{HasCause};
 ghost use Rattle.reg_requests.specs.Lines.{line};
-ghost use Rattle.reg_top.specs.Output.{TakesWhole, TakesPart};
-ghost use Rattle.reg_top.specs.Ends.{OutputEnds};
+ghost use Rattle.reg_session.specs.Outside.{TakesWhole, TakesPart};
 
-use crate::status::Status;
 use reg_session::{Failed, Sink};
 
 /// Writes all bytes, or those before a fault. Takes no memory.
@@ -38,25 +36,12 @@ pub(crate) fn write_two<K: Sink>(sink: &mut K, first: &[u8], second: &[u8]) -> R
     Ok(())
 }
 
-/// Writes an output, and answers how the command ended.
-pub(crate) fn write_output<K: Sink>(sink: &mut K, output: &[u8]) -> Status
-    ensures { OutputEnds (K.taken sink.old) (K.taken sink.new) (K.faults sink.old) (K.faults sink.new) output.now result }
+/// Writes a line: a text, and a line feed. Takes no memory.
+pub(crate) fn write_line<K: Sink>(sink: &mut K, text: &[u8]) -> Result<(), Failed>
+    ensures takes { MatchResult result
+        (λ _. TakesWhole (K.taken sink.old) (K.taken sink.new) (line text.now))
+        (λ _. TakesPart (K.taken sink.old) (K.taken sink.new) (line text.now)) }
+    ensures cause { HasCause (K.faults sink.old) (K.faults sink.new) (IsErr result) }
 {
-    end_of(write_all(sink, output))
-}
-
-/// Writes an output of one line, and answers how the command ended.
-pub(crate) fn write_line<K: Sink>(sink: &mut K, text: &[u8]) -> Status
-    ensures { OutputEnds (K.taken sink.old) (K.taken sink.new) (K.faults sink.old) (K.faults sink.new) (line text.now) result }
-{
-    end_of(write_two(sink, text, b"\n"))
-}
-
-fn end_of(written: Result<(), Failed>) -> Status
-    ensures { MatchResult written (λ _. result ≡ Status.Done) (λ _. result ≡ Status.Write) }
-{
-    match written {
-        Ok(()) => Status::Done,
-        Err(Failed) => Status::Write,
-    }
+    write_two(sink, text, b"\n")
 }

@@ -1,5 +1,5 @@
 use Rattle.std.proofs.Common.{◌≡◌, ◌++◌, drop}
-use Rattle.reg_top.specs.Output.{item_lines}
+use Rattle.reg_top.specs.commands.Run.{item_lines}
 use Rattle.reg_top.proofs.replies.print_replies.Given as goal
 
 -- what is printed so far, with the lines of the items that are left, is all of it

@@ -1,0 +1,82 @@
+-- From what the parts of a command tell to how it ends.
+use Rattle.std.proofs.Common.{◌≡◌, ℕ, ◌<◌, ◌≤◌, ◌^◌, List, [], ◌∷◌, length, Option, Some, Result, Ok, Err, refl, sym, ◌∙◌, ap, subst, arith, lit<}
+use Rattle.std.specs.Prelude.{IfSome, IsSomeAnd, Contains, All, MatchResult, IsErr}
+use Rattle.std.proofs.lemmas.Bool.{false≢true}
+use Rattle.std.proofs.lemmas.List.Elements.{All-nil, All-cons}
+use Rattle.reg_model.specs.Runs.{RoundRows}
+use Rattle.reg_model.proofs.RowSteps.{IfSome-weaker}
+use Rattle.reg_session.specs.declared.sink.Failed.{Failed}
+use Rattle.reg_session.specs.declared.shelf.FetchFault.{FetchFault}
+use Rattle.reg_session.specs.declared.shelf.FetchFault.TheVariants as faults
+use Rattle.reg_session.specs.Faults.{HasCause}
+use Rattle.reg_session.specs.Files.{Files, FetchTells}
+use Rattle.reg_session.specs.Outside.{Outside, TakesWhole, TakesPart, Tells}
+use Rattle.reg_top.specs.declared.ending.Ending.{Ending}
+use Rattle.reg_top.specs.declared.ending.Ending.TheVariants as endings
+use Rattle.reg_top.specs.declared.ending.Declined.{Declined}
+use Rattle.reg_top.specs.declared.ending.Declined.TheVariants as declines
+use Rattle.reg_top.specs.Fetches.{Command, Fetch, fetches}
+use Rattle.reg_top.specs.Dispatch.{Refuses}
+use Rattle.reg_top.specs.Outcomes.{GivenBy, IsHeld}
+use Rattle.reg_top.specs.inner.Endings.{unread_line, declined_ending, declined_line, UnreadWhy, Fetched, GivesNone, Makes, Ends}
+use Rattle.reg_top.proofs.Endings.{always}
+
+-- ---- what was fetched
+
+-- a command that fetches nothing
+pub none_fetched : (command : Command) (before after : Outside) → fetches command ≡ [] → after.shelf.faults ≡ before.shelf.faults → Fetched command before after
+none_fetched command before after none quiet = record {
+  held = always _ (λ files. subst (All (IsHeld files)) (sym none) (All-nil (IsHeld files))) before.shelf.files;
+  quiet = quiet;
+}
+
+-- a command whose one file is there and in limit
+pub one_fetched : (command : Command) (before after : Outside) (fetch : Fetch) (bytes : List ℕ) → fetches command ≡ fetch ∷ []
+    → IfSome before.shelf.files (λ files. files fetch.name ≡ Some bytes) → length bytes ≤ fetch.limit → after.shelf.faults ≡ before.shelf.faults → Fetched command before after
+one_fetched command before after fetch bytes one held within quiet = record {
+  held = IfSome-weaker _ _ (λ files is. subst (All (IsHeld files)) (sym one)
+      (All-cons (IsHeld files) fetch [] (subst (λ h. IsSomeAnd h (λ b. length b ≤ fetch.limit)) (sym is) within) (All-nil (IsHeld files)))) before.shelf.files held;
+  quiet = quiet;
+}
+
+why_of : (fault : FetchFault) (files : Files) (fetch : Fetch) → FetchTells (files fetch.name) fetch.limit (Err fault) [] → UnreadWhy fault files fetch
+why_of faults.Missing files fetch tells = tells
+why_of faults.TooLong files fetch tells = tells
+why_of faults.Failed files fetch tells = tt
+why_of faults.NoMemory files fetch tells = tt
+
+-- a command whose one file gave no bytes
+pub unread_ends : (command : Command) (before after : Outside) (served : List RoundRows) (fetch : Fetch) (fault : FetchFault) → fetches command ≡ fetch ∷ []
+    → IfSome before.shelf.files (λ files. FetchTells (files fetch.name) fetch.limit (Err fault) []) → HasCause before.shelf.faults after.shelf.faults (fault ≡ faults.Failed)
+    → Tells before.sink after.sink (unread_line fault fetch.name) → Ends command before after served (endings.Unread fault)
+unread_ends command before after served fetch fault one tells cause told = record {
+  fetch = fetch;
+  one = subst (λ list. Contains list fetch) (sym one) (0, lit< tt, refl);
+  why = IfSome-weaker _ _ (λ files is. (record { before = []; rest = []; all = one; held = All-nil (IsHeld files) }, why_of fault files fetch is)) before.shelf.files tells;
+  cause = cause;
+  told = told;
+}
+
+-- ---- what is made of it
+
+-- why what the command is given makes no output
+abbrev pub Declines : Command → Outside → List RoundRows → Declined → Type 0
+Declines command before served (declines.Refused refusal) = GivenBy (fetches command) before.shelf.files (λ files. Refuses command files served refusal)
+Declines command before served declines.NoMemory = Unit {0}
+
+pub declined_ends : (command : Command) (before after : Outside) (served : List RoundRows) (why : Declined) → Fetched command before after
+    → Declines command before served why → Tells before.sink after.sink (declined_line why) → Ends command before after served (declined_ending why)
+declined_ends command before after served (declines.Refused refusal) fetched is told = record { fetched = fetched; why = is; told = told }
+declined_ends command before after served declines.NoMemory fetched is told = record { quiet = fetched.quiet; told = told }
+
+-- an output that is written
+pub written_ends : (command : Command) (before after : Outside) (served : List RoundRows) (result : Result (Unit {0}) Failed) (ending : Ending) (output : List ℕ)
+    → MatchResult result (λ _. ending ≡ endings.Done) (λ _. ending ≡ endings.Unwritten)
+    → MatchResult result (λ _. TakesWhole before.sink.taken after.sink.taken output) (λ _. TakesPart before.sink.taken after.sink.taken output)
+    → HasCause before.sink.faults after.sink.faults (IsErr result)
+    → Fetched command before after → GivenBy (fetches command) before.shelf.files (λ files. Makes command files served output)
+    → Ends command before after served ending
+written_ends command before after served (Ok done) ending output is takes cause fetched made =
+    subst (Ends command before after served) (sym is) (record { fetched = fetched; quiet = cause.kept false≢true; output = output; made = made; takes = takes })
+written_ends command before after served (Err fault) ending output is takes cause fetched made =
+    subst (Ends command before after served) (sym is) (record { fetched = fetched; rose = cause.failed refl; output = output; made = made; takes = takes })

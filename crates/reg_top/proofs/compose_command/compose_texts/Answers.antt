@@ -1,9 +1,0 @@
-use Rattle.std.proofs.Common.{drop, refl}
-use Rattle.reg_top.specs.Words.Command.{Compose}
-use Rattle.reg_top.proofs.Endings.{unfetched, declined_ends}
-use Rattle.reg_top.proofs.compose_command.compose_texts.Goals as goal
-
-pub returns-in-Err : goal.returns-in-Err
-returns-in-Err g c = λ files count.
-    let asked = Compose (drop 1 c.args.words.now) in
-    declined_ends asked files count count _ _ _ _ c.in-Err.status (unfetched asked files count refl) (c.in-Err.ensures.declines files) c.tell_status.ensures

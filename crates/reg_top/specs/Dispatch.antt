@@ -1,0 +1,28 @@
+-- What each command writes, and why it refuses what it is given.
+use Rattle.std.specs.Prelude.{◌≡◌, ℕ, List}
+use Rattle.reg_model.specs.Runs.{RoundRows, nothing}
+use Rattle.reg_session.specs.Files.{Files}
+use Rattle.reg_top.specs.declared.refusal.Refusal.{Refusal}
+use Rattle.reg_top.specs.Fetches.{Command}
+use Rattle.reg_top.specs.Fetches.Command.{Run, Explain, Compose, Instance, Check}
+use Rattle.reg_top.specs.commands.Run.{IsRunOutput}
+use Rattle.reg_top.specs.commands.Explain.{IsExplanation, RefusesText}
+use Rattle.reg_top.specs.commands.Compose.{IsComposition, RefusesTexts}
+use Rattle.reg_top.specs.commands.Instance.{IsInstanceLine}
+use Rattle.reg_top.specs.commands.Check.{IsLawfulLine, RefusesHistory}
+
+-- the output is that of the command over these files; these are the rounds that it served
+abbrev pub IsOutput : Command → Files → List RoundRows → List ℕ → Type 0
+IsOutput (Run plan) files served output = IsRunOutput nothing plan files served output
+IsOutput (Explain text) files served output = IsExplanation text output
+IsOutput (Compose texts) files served output = IsComposition texts output
+IsOutput (Instance name) files served output = IsInstanceLine name files output
+IsOutput (Check name) files served output = IsLawfulLine name files output
+
+-- the command refuses what it is given, and this is why
+abbrev pub Refuses : Command → Files → List RoundRows → Refusal → Type 0
+Refuses (Run plan) files served refusal = ⊥
+Refuses (Explain text) files served refusal = RefusesText text refusal
+Refuses (Compose texts) files served refusal = RefusesTexts texts refusal
+Refuses (Instance name) files served refusal = ⊥
+Refuses (Check name) files served refusal = RefusesHistory name files refusal

@@ -1,0 +1,127 @@
+-- How a call of the program ends, and why.
+use Rattle.std.specs.Prelude.{◌≡◌, ◌⊎◌, ℕ, ◌-◌, ◌<◌, ◌≤◌, ◌^◌, List, [], ◌∷◌, ◌++◌, length, All, Contains, Option, None, IfSome, IsSomeAnd, codes}
+use Rattle.reg_model.specs.Runs.{RoundRows}
+use Rattle.reg_requests.specs.Lines.{line}
+use Rattle.reg_session.specs.Faults.{Rose, Quiet}
+use Rattle.reg_session.specs.Files.{Files}
+use Rattle.reg_session.specs.Outside.{Outside, TakesWhole, TakesPart, Tells}
+use Rattle.reg_top.specs.declared.refusal.Refusal.{Refusal}
+use Rattle.reg_top.specs.Fetches.{Command, Fetch, fetches}
+use Rattle.reg_top.specs.Words.{IsForm}
+use Rattle.reg_top.specs.Dispatch.{IsOutput, Refuses}
+use Rattle.reg_top.specs.FaultLines.{words_line, missing_line, read_line, long_line, memory_line, refusal_line, refusal_number}
+
+-- ---- what a command is given
+
+-- P holds of the files that a command is given: of those that the shelf tells, or, where the command fetches none, whatever they are
+abbrev pub GivenBy : List Fetch → Option Files → (Files → Type 0) → Type 0
+GivenBy [] files P = P (λ name. None)
+GivenBy (fetch ∷ more) files P = IfSome files P
+
+-- the file is there, and in limit
+abbrev pub IsHeld : Files → Fetch → Type 0
+IsHeld files fetch = IsSomeAnd (files fetch.name) (λ bytes. length bytes ≤ fetch.limit)
+
+abbrev pub IsMissing : Files → Fetch → Type 0
+IsMissing files fetch = files fetch.name ≡ None
+
+abbrev pub IsTooLong : Files → Fetch → Type 0
+IsTooLong files fetch = IsSomeAnd (files fetch.name) (λ bytes. fetch.limit < length bytes)
+
+-- all files before this one in the order of the command's fetches are there and in limit
+pub record IsReached (command : Command) (files : Files) (fetch : Fetch) : Type 0 where
+  pub before : List Fetch
+  pub rest : List Fetch
+  pub all : fetches command ≡ before ++ fetch ∷ rest
+  pub held : All (IsHeld files) before
+
+-- what the command is given is known: it fetches nothing, or the shelf tells its files, those that it fetches are there and in limit,
+-- and no fetch failed
+abbrev pub IsGiven : Command → Outside → Outside → Type 0
+IsGiven command before after = (fetches command ≡ [])
+    ⊎ (IsSomeAnd before.shelf.files (λ files. All (IsHeld files) (fetches command)) × Quiet before.shelf.faults after.shelf.faults)
+
+-- ---- the cause of each status
+
+-- The status comes only where P holds, and where P holds it comes, unless memory is wanting.
+pub record Exactly (status number : ℕ) (P : Type 0) : Type 0 where
+  pub only : status ≡ number → P
+  pub where_it_holds : P → (status ≡ number) ⊎ (status ≡ 6)
+
+-- no command has these words
+abbrev pub HasNoForm : List (List ℕ) → Type 0
+HasNoForm words = (command : Command) → IsForm words command → ⊥
+
+-- the sink has taken an output of the command, and nothing else
+abbrev pub Writes : Command → Outside → Outside → List RoundRows → Type 0
+Writes command before after served =
+    GivenBy (fetches command) before.shelf.files (λ files. (output : List ℕ) × IsOutput command files served output × TakesWhole before.sink.taken after.sink.taken output)
+
+-- it has taken a front of such an output
+abbrev pub WritesFront : Command → Outside → Outside → List RoundRows → Type 0
+WritesFront command before after served =
+    GivenBy (fetches command) before.shelf.files (λ files. (output : List ℕ) × IsOutput command files served output × TakesPart before.sink.taken after.sink.taken output)
+
+-- The first file that gives no bytes has this fault, and its line is told; no fetch failed.
+pub record TellsFile (command : Command) (before after : Outside) (HasFault : Files → Fetch → Type 0) (line_of : List ℕ → List ℕ) : Type 0 where
+  pub fetch : Fetch
+  pub one : Contains (fetches command) fetch
+  pub fault : IfSome before.shelf.files (λ files. IsReached command files fetch × HasFault files fetch)
+  pub quiet : before.shelf.faults < 2 ^ 64 - 1 → after.shelf.faults ≡ before.shelf.faults
+  pub told : Tells before.sink after.sink (line_of fetch.name)
+
+-- a status that tells the fault of a file: only with that cause, and there, where no fetch failed, unless memory is wanting
+pub record IsFileStatus (command : Command) (before after : Outside) (status number : ℕ) (HasFault : Files → Fetch → Type 0) (line_of : List ℕ → List ℕ) : Type 0 where
+  pub only : status ≡ number → TellsFile command before after HasFault line_of
+  pub where_it_holds : Quiet before.shelf.faults after.shelf.faults → IfSome before.shelf.files (λ files. (fetch : Fetch) → IsReached command files fetch → HasFault files fetch
+      → (status ≡ number) ⊎ (status ≡ 6))
+
+-- a fetch failed: the first that gave no bytes, whose line is told
+pub record TellsRead (command : Command) (before after : Outside) : Type 0 where
+  pub fetch : Fetch
+  pub one : Contains (fetches command) fetch
+  pub reached : IfSome before.shelf.files (λ files. IsReached command files fetch)
+  pub rose : Rose before.shelf.faults after.shelf.faults
+  pub told : Tells before.sink after.sink (read_line fetch.name)
+
+-- the command refuses what it is given, and the line of the refusal is told
+pub record TellsRefusal (command : Command) (before after : Outside) (served : List RoundRows) (status : ℕ) : Type 0 where
+  pub refusal : Refusal
+  pub number : status ≡ refusal_number refusal
+  pub why : GivenBy (fetches command) before.shelf.files (λ files. Refuses command files served refusal)
+  pub fetched : IfSome before.shelf.files (λ files. All (IsHeld files) (fetches command))
+  pub quiet : after.shelf.faults ≡ before.shelf.faults
+  pub told : Tells before.sink after.sink (refusal_line refusal)
+
+-- the numbers of refusals
+abbrev pub IsRefusalNumber : ℕ → Type 0
+IsRefusalNumber status = (8 ≤ status) × (status ≤ 12)
+
+-- How a command ends with a status, where it served these rounds: what is written, and the cause of each status.
+pub record EndsWith (command : Command) (before after : Outside) (served : List RoundRows) (status : ℕ) : Type 0 where
+  pub done : status ≡ 0 → Writes command before after served
+  pub missing : IsFileStatus command before after status 3 IsMissing missing_line
+  pub too_long : IsFileStatus command before after status 7 IsTooLong long_line
+  pub read : status ≡ 4 → TellsRead command before after
+  -- a fetch that failed isn't passed over
+  pub failed : before.shelf.faults < after.shelf.faults → (status ≡ 4) ⊎ (status ≡ 6)
+  pub refused : IsRefusalNumber status → TellsRefusal command before after served status
+  pub refuses : (refusal : Refusal) → IsGiven command before after → GivenBy (fetches command) before.shelf.files (λ files. Refuses command files served refusal)
+      → (status ≡ refusal_number refusal) ⊎ (status ≡ 6)
+  pub unwritten : status ≡ 5 → Rose before.sink.faults after.sink.faults × WritesFront command before after served
+  pub memory : status ≡ 6 → Tells before.sink after.sink memory_line
+  -- where no refusal applies and no fault comes, all is done, or memory is wanting
+  pub complete : IsGiven command before after → Quiet before.sink.faults after.sink.faults
+      → ((refusal : Refusal) → GivenBy (fetches command) before.shelf.files (λ files. Refuses command files served refusal) → ⊥) → (status ≡ 0) ⊎ (status ≡ 6)
+
+-- the statuses there are
+abbrev pub statuses : List ℕ
+statuses = 0 ∷ 2 ∷ 3 ∷ 4 ∷ 5 ∷ 6 ∷ 7 ∷ 10 ∷ []
+
+-- How a call with these words ends with a status, where it served these rounds.
+pub record IsOutcome (words : List (List ℕ)) (before after : Outside) (served : List RoundRows) (status : ℕ) : Type 0 where
+  pub no_form : Exactly status 2 (HasNoForm words)
+  pub words_told : status ≡ 2 → Tells before.sink after.sink words_line
+  pub ends : (command : Command) → IsForm words command → EndsWith command before after served status
+  pub known : Contains statuses status
+  pub same : after.shelf.files ≡ before.shelf.files

@@ -1,0 +1,67 @@
+-- `run FILE`: what it writes.
+use Rattle.std.specs.Prelude.{◌≡◌, ℕ, ◌+◌, List, [], ◌∷◌, ◌++◌, length, map, slice_get, All, Option, Some, IfSome, codes}
+use Rattle.std.specs.List.{AllZip}
+use Rattle.std.specs.Fmt.{decimal}
+use Rattle.reg_model.specs.declared.reply.Row.{Row}
+use Rattle.reg_model.specs.Opening.{Opening}
+use Rattle.reg_model.specs.Rows.{session_rows, AsksLogFirst}
+use Rattle.reg_model.specs.Runs.{RoundRows, IsHistory, next_opening, nothing}
+use Rattle.reg_requests.specs.declared.items.Item.{Item}
+use Rattle.reg_requests.specs.declared.items.Item.TheVariants as items
+use Rattle.reg_session.specs.Files.{Files}
+use Rattle.reg_requests.specs.Lines.{line, spaced, reply_text, bad_text, kind_of}
+use Rattle.reg_requests.specs.Requests.{AreItems, calls_of}
+use Rattle.reg_history.specs.History.{history_text}
+use Rattle.reg_session.specs.Outside.{TakesWhole}
+use Rattle.reg_top.specs.Fetches.{RoundPlan}
+use Rattle.reg_history.specs.lines.Values.{IsRunValue}
+
+-- a line for each item of a file: the refusal, or the reply of the call's row
+abbrev pub item_lines : List Item → List Row → List ℕ
+item_lines [] rows = []
+item_lines (items.Bad why ∷ list) rows = line (bad_text why) ++ item_lines list rows
+item_lines (items.Call call ∷ list) [] = item_lines list []
+item_lines (items.Call call ∷ list) (row ∷ rows) = line (reply_text (kind_of call) row.reply) ++ item_lines list rows
+
+-- the replies of a round to its sessions, from a session on
+abbrev pub session_texts : ℕ → ℕ → List (List Item) → List Row → List ℕ
+session_texts round session [] rows = []
+session_texts round session (list ∷ lists) rows =
+    line (spaced (codes "replies" ∷ decimal round ∷ decimal session ∷ []))
+    ++ item_lines list (session_rows session rows)
+    ++ session_texts round (session + 1) lists rows
+
+-- the replies of the rounds, from a round on
+abbrev pub reply_texts : ℕ → List (List (List Item)) → List RoundRows → List ℕ
+reply_texts number [] rounds = []
+reply_texts number (lists ∷ more) [] = []
+reply_texts number (lists ∷ more) (round ∷ rounds) = session_texts number 0 lists round.rows ++ reply_texts (number + 1) more rounds
+
+-- the rows of each session are the calls of its items, each once and in order
+abbrev pub MakesCalls : List (List Item) → RoundRows → Type 0
+MakesCalls lists round = (session : ℕ) (list : List Item) → slice_get lists session ≡ Some list → map (λ row. row.call) (session_rows session round.rows) ≡ calls_of list
+
+-- the items of the file with this name
+abbrev pub IsFileOf : Files → List ℕ → List Item → Type 0
+IsFileOf files name list = (bytes : List ℕ) × (files name ≡ Some bytes) × AreItems bytes list
+
+-- where a round has one session, a refusal for want of entries comes only below the log's end
+abbrev pub AskLogFirst : Opening → List RoundRows → Type 0
+AskLogFirst opening [] = Unit {0}
+AskLogFirst opening (round ∷ rounds) = (round.limits.callers ≡ 1 → All (AsksLogFirst round.limits opening) round.rows) × AskLogFirst (next_opening opening round.rows) rounds
+
+-- The output is that of one lawful run, whose numbers the program's types can have, and which makes the calls of the planned files.
+pub record IsRunOutput (opening : Opening) (plan : List RoundPlan) (files : Files) (rounds : List RoundRows) (output : List ℕ) : Type 0 where
+  pub items : List (List (List Item))
+  pub callers : All (λ (p : RoundPlan). p.limits.callers ≡ length p.names) plan
+  pub read : AllZip (λ (p : RoundPlan) lists. AllZip (IsFileOf files) p.names lists) plan items
+  pub sizes : map (λ (p : RoundPlan). p.limits) plan ≡ map (λ (r : RoundRows). r.limits) rounds
+  pub calls : AllZip MakesCalls items rounds
+  pub lawful : IsHistory opening rounds
+  pub alone : AskLogFirst opening rounds
+  pub values : IsRunValue opening rounds
+  pub text : output ≡ reply_texts 0 items rounds ++ history_text opening rounds
+
+-- Where the shelf tells its files and the sink its bytes, the sink has taken the output of the run, and nothing else.
+abbrev pub WritesRun : List RoundPlan → Option Files → Option (List ℕ) → Option (List ℕ) → Type 0
+WritesRun plan files before after = IfSome files (λ map. (rounds : List RoundRows) × (output : List ℕ) × IsRunOutput nothing plan map rounds output × TakesWhole before after output)
