@@ -5,40 +5,43 @@
 //! told by any contract, so nothing is decided here but which cause a fault has.
 #![tactic(auto)]
 
+mod exit;
 mod file_shelf;
 mod out_sink;
 
+use exit::{NoWords, exit_with};
 use file_shelf::FileShelf;
 use out_sink::OutSink;
-use reg_top::{Args, top};
+use reg_top::Args;
+use std::env;
 use std::io::ErrorKind;
 use std::process::ExitCode;
 use std::rt::Env;
-use std::{env, io};
 
-// The status where there is no memory for the words; nothing is written then.
-const MEMORY: u8 = 6;
+#[cfg(test)]
+mod tests;
 
 fn main(rt: HostRuntime) -> ExitCode {
     let mut shelf = FileShelf::new(&rt);
     let mut sink = OutSink::new(&rt);
-    let status = match words(&rt) {
-        Ok(words) => top(rt.alloc(), &words, &mut shelf, &mut sink),
-        Err(fault) => match fault.kind() {
-            ErrorKind::OutOfMemory => MEMORY,
-            // Words that are no text are of no form, as no words are.
-            _ => top(rt.alloc(), &Args::new(rt.alloc()), &mut shelf, &mut sink),
-        },
-    };
-    ExitCode::from(status)
+    exit_with(rt.alloc(), words(&rt), &mut shelf, &mut sink)
 }
 
 // The words after the program's name.
-fn words<R: Env + AllocGlobal>(rt: &R) -> io::Result<Args> {
+fn words<R: Env + AllocGlobal>(rt: &R) -> Result<Args, NoWords> {
+    let all = match env::args(rt) {
+        Ok(all) => all,
+        Err(fault) => {
+            return Err(match fault.kind() {
+                ErrorKind::OutOfMemory => NoWords::NoMemory,
+                _ => NoWords::NoText,
+            });
+        }
+    };
     let mut words = Args::new(rt.alloc());
-    for word in env::args(rt)?.skip(1) {
+    for word in all.skip(1) {
         if words.push(word.as_str()).is_err() {
-            return Err(io::Error::from(ErrorKind::OutOfMemory));
+            return Err(NoWords::NoMemory);
         }
     }
     Ok(words)

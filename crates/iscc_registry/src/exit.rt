@@ -1,0 +1,46 @@
+ghost use Rattle.std.specs.Prelude.{◌≡◌, [], List, IfOk, Err};
+ghost use Rattle.std.specs.Process.{exit_status};
+ghost use Rattle.reg_model.specs.Runs.{RoundRows};
+ghost use Rattle.reg_session.specs.Outside.{outside};
+ghost use Rattle.reg_top.specs.Outcomes.{IsOutcome};
+
+use reg_top::{Args, Shelf, Sink, top};
+use std::alloc::Global;
+use std::process::ExitCode;
+
+/// Why a command line gives no words.
+#[derive(Clone, Copy, Debug, PartialEq, Eq)]
+pub enum NoWords {
+    /// Memory is wanting for them.
+    NoMemory,
+    /// One of them is no text.
+    NoText,
+}
+
+// The status where there is no memory for the words; nothing is written then.
+const MEMORY: u8 = 6;
+
+/// Does what the words say, and ends with the status that `top` answers.
+pub(crate) fn exit_with<F: Shelf, K: Sink>(
+    alloc: Global,
+    words: Result<Args, NoWords>,
+    shelf: &mut F,
+    sink: &mut K,
+) -> ExitCode
+    ensures served { IfOk words (λ words. (served : List RoundRows) × IsOutcome words
+        (outside (F.files shelf.old) (F.fetch_faults shelf.old) (K.taken sink.old) (K.faults sink.old))
+        (outside (F.files shelf.new) (F.fetch_faults shelf.new) (K.taken sink.new) (K.faults sink.new)) served (exit_status result)) }
+
+    // Words that are no text are of no form, as no words are.
+    ensures no_text { words ≡ Err NoWords.NoText → (served : List RoundRows) × IsOutcome []
+        (outside (F.files shelf.old) (F.fetch_faults shelf.old) (K.taken sink.old) (K.faults sink.old))
+        (outside (F.files shelf.new) (F.fetch_faults shelf.new) (K.taken sink.new) (K.faults sink.new)) served (exit_status result) }
+    ensures no_memory { words ≡ Err NoWords.NoMemory → exit_status result ≡ 6 }
+{
+    let status = match words {
+        Ok(words) => top(alloc, &words, shelf, sink),
+        Err(NoWords::NoText) => top(alloc, &Args::new(alloc), shelf, sink),
+        Err(NoWords::NoMemory) => MEMORY,
+    };
+    ExitCode::from(status)
+}
