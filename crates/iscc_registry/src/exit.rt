@@ -35,7 +35,7 @@ pub(crate) fn exit_with<F: Shelf, K: Sink>(
     ensures no_text { words ≡ Err NoWords.NoText → (served : List RoundRows) × IsOutcome []
         (outside (F.files shelf.old) (F.fetch_faults shelf.old) (K.taken sink.old) (K.faults sink.old))
         (outside (F.files shelf.new) (F.fetch_faults shelf.new) (K.taken sink.new) (K.faults sink.new)) served (exit_status result) }
-    ensures no_memory { words ≡ Err NoWords.NoMemory → exit_status result ≡ 6 }
+    ensures no_memory { words ≡ Err NoWords.NoMemory → (exit_status result ≡ 6) × (shelf.new ≡ shelf.old) × (sink.new ≡ sink.old) }
 {
     let status = match words {
         Ok(words) => top(alloc, &words, shelf, sink),

@@ -16,3 +16,4 @@ pub mod SessionAccounts
 pub mod Merged
 pub mod WorkedAccounts
 pub mod LoneRounds
+pub mod LawfulRounds

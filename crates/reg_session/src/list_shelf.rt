@@ -53,7 +53,7 @@ impl ListShelf {
 }
 
 // The bytes of the first file with this name.
-pub fn bytes_at<'a>(files: &'a [(String, Vec<u8>)], name: &str) -> Option<&'a [u8]>
+pub(crate) fn bytes_at<'a>(files: &'a [(String, Vec<u8>)], name: &str) -> Option<&'a [u8]>
     ensures found { IfSome result (λ bytes. file_at (map (λ file. (string_bytes file.0, file.1.items)) files.now) name.now ≡ Some bytes.now) }
     ensures none { IfNone result (file_at (map (λ file. (string_bytes file.0, file.1.items)) files.now) name.now ≡ None) }
 {

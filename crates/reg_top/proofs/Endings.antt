@@ -1,5 +1,5 @@
 -- From the end of a command to its status, and to what each status says.
-use Rattle.std.proofs.Common.{◌≡◌, ◌⊎◌, inl, inr, ℕ, ◌<◌, ◌≤◌, zero, suc, List, [], ◌∷◌, ◌++◌, length, Option, Some, None, refl, sym, ◌∙◌, subst, arith, lit<, lit≤, get_or}
+use Rattle.std.proofs.Common.{ap, ◌≡◌, ◌⊎◌, inl, inr, ℕ, ◌<◌, ◌≤◌, suc, List, [], ◌∷◌, ◌++◌, length, Option, Some, None, refl, sym, ◌∙◌, subst, arith, lit<}
 use Rattle.std.specs.Prelude.{IfSome, IsSomeAnd, Contains, All}
 use Rattle.reg_model.specs.Runs.{RoundRows}
 use Rattle.reg_model.proofs.RowSteps.{IfSome-weaker}
@@ -7,17 +7,16 @@ use Rattle.reg_session.specs.declared.shelf.FetchFault.{FetchFault}
 use Rattle.reg_session.specs.declared.shelf.FetchFault.TheVariants as faults
 use Rattle.reg_session.specs.Faults.{Quiet, Rose}
 use Rattle.reg_session.specs.Files.{Files}
-use Rattle.reg_session.specs.Outside.{Outside, TakesWhole, TakesPart, Tells}
+use Rattle.reg_session.specs.Outside.{ShelfView, Outside, Tells}
 use Rattle.reg_top.specs.declared.ending.Ending.{Ending}
 use Rattle.reg_top.specs.declared.ending.Ending.TheVariants as endings
 use Rattle.reg_top.specs.declared.refusal.Refusal.{Refusal}
 use Rattle.reg_top.specs.declared.refusal.Refusal.TheVariants as refusals
 use Rattle.reg_top.specs.Fetches.{Command, Fetch, fetches}
 use Rattle.reg_top.specs.Words.{IsForm}
-use Rattle.reg_top.specs.Dispatch.{IsOutput, Refuses}
-use Rattle.reg_top.specs.FaultLines.{words_line, missing_line, read_line, long_line, memory_line, refusal_line, refusal_number}
-use Rattle.reg_top.specs.Outcomes.{GivenBy, IsHeld, IsMissing, IsTooLong, IsReached, IsGiven, Exactly, HasNoForm, Writes, WritesFront, TellsFile, IsFileStatus, TellsRead, TellsRefusal, IsRefusalNumber, EndsWith, statuses, IsOutcome}
-use Rattle.reg_top.specs.inner.Endings.{ending_number, unread_number, unread_line, UnreadWhy, Fetched, GivesNone, Makes, EndsDone, EndsUnwritten, EndsRefused, EndsShort, Ends}
+use Rattle.reg_top.specs.FaultLines.{words_line, missing_line, long_line, memory_line, refusal_number}
+use Rattle.reg_top.specs.Outcomes.{GivenBy, IsHeld, IsMissing, IsTooLong, IsReached, IsGiven, HasNoForm, IsFileStatus, EndsWith, statuses, IsOutcome}
+use Rattle.reg_top.specs.inner.Endings.{ending_number, unread_number, UnreadWhy, GivesNone, EndsDone, EndsUnwritten, EndsRefused, Ends}
 use Rattle.reg_top.proofs.Forms.{one_form}
 
 -- ---- counts of faults
@@ -219,43 +218,51 @@ refused_with command before after served refusal ends =
       complete = λ given quiet none. absurd (none refusal ends.why);
     }
 
+-- neither 3 nor 7
+not_file : (number other : ℕ) → (number ≡ 3) ⊎ (number ≡ 7) → (other ≡ 3 → ⊥) → (other ≡ 7 → ⊥) → number ≡ other → ⊥
+not_file number other file three seven is = elim file [ inl a ↦ three (sym is ∙ a) | inr a ↦ seven (sym is ∙ a) ]
+
+-- the first file that gave no bytes isn't there, or is too long
+unheld_with : (command : Command) (before after : Outside) (served : List RoundRows) (fault : FetchFault) (number : ℕ)
+    → (number ≡ 3) ⊎ (number ≡ 7) → GivesNone command before after fault → after.shelf.faults ≡ before.shelf.faults
+    → ((files : Files) (fetch : Fetch) → UnreadWhy fault files fetch → IsHeld files fetch → ⊥)
+    → IsFileStatus command before after number 3 IsMissing missing_line → IsFileStatus command before after number 7 IsTooLong long_line
+    → EndsWith command before after served number
+unheld_with command before after served fault number file none quiet unheld missing too_long = record {
+  done = λ is. absurd (not_file number 0 file (λ e. cc) (λ e. cc) is);
+  missing = missing;
+  too_long = too_long;
+  read = λ is. absurd (not_file number 4 file (λ e. cc) (λ e. cc) is);
+  failed = λ less. absurd (not_less before.shelf.faults after.shelf.faults quiet less);
+  refused = λ high. absurd (elim file [ inl a ↦ omega (arith, high.0, a) | inr a ↦ omega (arith, high.0, a) ]);
+  refuses = λ refusal given why. absurd (unread_given command before after fault none unheld given);
+  unwritten = λ is. absurd (not_file number 5 file (λ e. cc) (λ e. cc) is);
+  memory = λ is. absurd (not_file number 6 file (λ e. cc) (λ e. cc) is);
+  complete = λ given quiet_sink free. absurd (unread_given command before after fault none unheld given);
+}
+
+-- the status of the first file that gave no bytes, where that is its fault
+file_told : (command : Command) (before after : Outside) (number : ℕ) (Fault : Files → Fetch → Type 0) (line_of : List ℕ → List ℕ) (fetch : Fetch)
+    → Contains (fetches command) fetch → IfSome before.shelf.files (λ files. IsReached command files fetch × Fault files fetch)
+    → after.shelf.faults ≡ before.shelf.faults → Tells before.sink after.sink (line_of fetch.name) → IsFileStatus command before after number number Fault line_of
+file_told command before after number Fault line_of fetch one why quiet told = record {
+  only = λ _. record { fetch = fetch; one = one; fault = why; quiet = quiet; told = told };
+  where_it_holds = λ _. always _ (λ files other reached fault. inl refl) before.shelf.files;
+}
+
 unread_with : (command : Command) (before after : Outside) (served : List RoundRows) (fault : FetchFault) → GivesNone command before after fault
     → EndsWith command before after served (unread_number fault)
 unread_with command before after served faults.Missing none =
     let quiet : after.shelf.faults ≡ before.shelf.faults = none.cause.kept (λ is. cc) in
-    record {
-      done = λ is. absurd (omega (arith, is));
-      missing = record {
-        only = λ _. record { fetch = none.fetch; one = none.one; fault = none.why; quiet = λ _. quiet; told = none.told };
-        where_it_holds = λ _. always _ (λ files fetch reached fault. inl refl) before.shelf.files;
-      };
-      too_long = late_number command before after faults.Missing 3 7 IsTooLong long_line (λ is. omega (arith, is)) none missing_unheld long_unheld not_both;
-      read = λ is. absurd (omega (arith, is));
-      failed = λ less. absurd (not_less before.shelf.faults after.shelf.faults quiet less);
-      refused = λ number. absurd (omega (arith, number.0));
-      refuses = λ refusal given why. absurd (unread_given command before after faults.Missing none missing_unheld given);
-      unwritten = λ is. absurd (omega (arith, is));
-      memory = λ is. absurd (omega (arith, is));
-      complete = λ given quiet_sink free. absurd (unread_given command before after faults.Missing none missing_unheld given);
-    }
+    unheld_with command before after served faults.Missing 3 (inl refl) none quiet missing_unheld
+    (file_told command before after 3 IsMissing missing_line none.fetch none.one none.why quiet none.told)
+    (late_number command before after faults.Missing 3 7 IsTooLong long_line (λ is. omega (arith, is)) none missing_unheld long_unheld not_both)
 unread_with command before after served faults.TooLong none =
     let quiet : after.shelf.faults ≡ before.shelf.faults = none.cause.kept (λ is. cc) in
-    record {
-      done = λ is. absurd (omega (arith, is));
-      missing = late_number command before after faults.TooLong 7 3 IsMissing missing_line (λ is. omega (arith, is)) none long_unheld missing_unheld
-          (λ files fetch long missing. not_both files fetch missing long);
-      too_long = record {
-        only = λ _. record { fetch = none.fetch; one = none.one; fault = none.why; quiet = λ _. quiet; told = none.told };
-        where_it_holds = λ _. always _ (λ files fetch reached fault. inl refl) before.shelf.files;
-      };
-      read = λ is. absurd (omega (arith, is));
-      failed = λ less. absurd (not_less before.shelf.faults after.shelf.faults quiet less);
-      refused = λ number. absurd (omega (arith, number.0));
-      refuses = λ refusal given why. absurd (unread_given command before after faults.TooLong none long_unheld given);
-      unwritten = λ is. absurd (omega (arith, is));
-      memory = λ is. absurd (omega (arith, is));
-      complete = λ given quiet_sink free. absurd (unread_given command before after faults.TooLong none long_unheld given);
-    }
+    unheld_with command before after served faults.TooLong 7 (inr refl) none quiet long_unheld
+    (late_number command before after faults.TooLong 7 3 IsMissing missing_line (λ is. omega (arith, is)) none long_unheld missing_unheld
+    (λ files fetch long missing. not_both files fetch missing long))
+    (file_told command before after 7 IsTooLong long_line none.fetch none.one none.why quiet none.told)
 unread_with command before after served faults.Failed none =
     let rose : Rose before.shelf.faults after.shelf.faults = none.cause.failed refl in
     let loud : Quiet before.shelf.faults after.shelf.faults → ⊥ = λ quiet. not_quiet before.shelf.faults after.shelf.faults quiet rose in
@@ -315,7 +322,7 @@ not_words endings.NoMemory is = omega (arith, is)
 pub command_outcome : (words : List (List ℕ)) (command : Command) (before after : Outside) (served : List RoundRows) (ending : Ending) → IsForm words command
     → after.shelf.files ≡ before.shelf.files → Ends command before after served ending → IsOutcome words before after served (ending_number ending)
 command_outcome words command before after served ending form same ends = record {
-  no_form = record { only = λ two. absurd (not_words ending two); where_it_holds = λ none. absurd (none command form) };
+  no_form = ((λ two. absurd (not_words ending two)), λ none. absurd (none command form));
   words_told = λ two. absurd (not_words ending two);
   ends = λ other is. subst (λ c. EndsWith c before after served (ending_number ending)) (one_form words command other form is) (ends_with command before after served ending ends);
   known = is_known ending;
@@ -324,11 +331,11 @@ command_outcome words command before after served ending form same ends = record
 
 -- of words that are of none
 pub words_outcome : (words : List (List ℕ)) (before after : Outside) (served : List RoundRows) → HasNoForm words
-    → after.shelf.files ≡ before.shelf.files → Tells before.sink after.sink words_line → IsOutcome words before after served 2
+    → after.shelf ≡ before.shelf → Tells before.sink after.sink words_line → IsOutcome words before after served 2
 words_outcome words before after served none same told = record {
-  no_form = record { only = λ _. none; where_it_holds = λ _. inl refl };
-  words_told = λ _. told;
+  no_form = ((λ _. none), λ _. refl);
+  words_told = λ _. (same, told);
   ends = λ command form. absurd (none command form);
   known = (1, lit< tt, refl);
-  same = same;
+  same = ap (λ (v : ShelfView). v.files) same;
 }

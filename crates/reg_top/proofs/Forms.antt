@@ -1,6 +1,7 @@
 -- The words of a command line are of one form at most.
 use Rattle.std.proofs.Common.{◌≡◌, ℕ, List, [], ◌∷◌, length, Some, None, refl, sym, ◌∙◌, ap, arith, ◌<◌, drop, subst}
-use Rattle.std.specs.Prelude.{All, slice_get, codes}
+use Rattle.std.specs.Prelude.{All, slice_get, codes, cond}
+use Rattle.std.specs.Str.{bytes_eq}
 use Rattle.std.proofs.lemmas.Option.{same_Some, none-some}
 use Rattle.reg_top.specs.declared.words.SideWord.{SideWord}
 use Rattle.reg_top.specs.declared.words.SideWord.TheVariants as side
@@ -24,35 +25,32 @@ first_word words (Compose texts) form = ap (λ ws. slice_get ws 0) form.words_ar
 first_word words (Instance name) form = ap (λ ws. slice_get ws 0) form.words_are
 first_word words (Check name) form = ap (λ ws. slice_get ws 0) form.words_are
 
--- the second letter, by which first words are told apart
-abbrev pub letter : List ℕ → ℕ
-letter [] = 0
-letter (x ∷ []) = 0
-letter (x ∷ y ∷ word) = y
-
--- words that begin so are of no form that begins with another word
-same_letter : (words : List (List ℕ)) (a b : List ℕ) → slice_get words 0 ≡ Some a → slice_get words 0 ≡ Some b → letter a ≡ letter b
-same_letter words a b h k = ap letter (same_Some a b (sym h ∙ k))
-
 abbrev second : List (List ℕ) → List ℕ
 second [] = []
 second (x ∷ []) = []
 second (x ∷ y ∷ words) = y
 
-same_value : (words : List (List ℕ)) (word a b : List ℕ) → HasOneValue words word a → HasOneValue words word b → a ≡ b
-same_value words word a b h k = ap second (sym h.words_are ∙ k.words_are)
+-- the command that words which begin with this word may be a form of
+abbrev named_by : List ℕ → List (List ℕ) → Command
+named_by word words =
+    cond (bytes_eq word (codes "run")) (Run (plan_of (second words)))
+    (cond (bytes_eq word (codes "explain")) (Explain (second words))
+    (cond (bytes_eq word (codes "compose")) (Compose (drop 1 words))
+    (cond (bytes_eq word (codes "instance")) (Instance (second words)) (Check (second words)))))
 
-same_name : (words : List (List ℕ)) (a b : List ℕ) → HasOneFile words a → HasOneFile words b → a ≡ b
-same_name words a b h k = ap second (sym h.words_are ∙ k.words_are)
+abbrev named : List (List ℕ) → Command
+named [] = Check []
+named (word ∷ words) = named_by word (word ∷ words)
+
+form_named : (words : List (List ℕ)) (command : Command) → IsForm words command → command ≡ named words
+form_named words (Run plan) form = let is = form.1 in ap Run form.2 ∙ sym (ap named is.words_are)
+form_named words (Explain text) form = sym (ap named form.words_are)
+form_named words (Compose texts) form = sym (ap named form.words_are)
+form_named words (Instance name) form = sym (ap named form.words_are)
+form_named words (Check name) form = sym (ap named form.words_are)
 
 pub one_form : (words : List (List ℕ)) (a b : Command) → IsForm words a → IsForm words b → a ≡ b
-one_form words (Run p) (Run q) h k = ap Run (h.2 ∙ ap plan_of (same_name words h.0 k.0 h.1 k.1) ∙ sym k.2)
-one_form words (Explain s) (Explain t) h k = ap Explain (same_value words (codes "explain") s t h k)
-one_form words (Compose s) (Compose t) h k = ap Compose (ap (λ ws. drop 1 ws) (sym h.words_are ∙ k.words_are))
-one_form words (Instance s) (Instance t) h k = ap Instance (same_value words (codes "instance") s t h k)
-one_form words (Check s) (Check t) h k = ap Check (same_value words (codes "check") s t h k)
-one_form words a b h k =
-    absurd (omega (arith, same_letter words (first_text a) (first_text b) (first_word words a h) (first_word words b k)))
+one_form words a b h k = form_named words a h ∙ sym (form_named words b k)
 
 -- ---- words of no form, by their first word
 
@@ -63,27 +61,36 @@ no_run words none other (Compose texts) form = other (side.Compose, first_word w
 no_run words none other (Instance name) form = other (side.Instance, first_word words (Instance name) form)
 no_run words none other (Check name) form = other (side.Check, first_word words (Check name) form)
 
+begins_with : (words : List (List ℕ)) (word : List ℕ) → slice_get words 0 ≡ Some word → words ≡ word ∷ drop 1 words
+begins_with [] word begins = absurd (none-some word begins)
+begins_with (first ∷ words) word begins = ap (λ w. w ∷ words) (same_Some first word begins)
+
+-- words that aren't of the form of the command that they name
+unformed : (words : List (List ℕ)) (command : Command) → named words ≡ command → (IsForm words command → ⊥) → HasNoForm words
+unformed words command names none other form = none (subst (IsForm words) (form_named words other form ∙ names) form)
+
 pub no_explain : (words : List (List ℕ)) → slice_get words 0 ≡ Some (codes "explain") → ((text : List ℕ) → HasOneValue words (codes "explain") text → ⊥) → HasNoForm words
-no_explain words begins none (Explain text) form = none text form
-no_explain words begins none command form = omega (arith, same_letter words (first_text command) (codes "explain") (first_word words command form) begins)
+no_explain words begins none =
+    let text = second (codes "explain" ∷ drop 1 words) in
+    unformed words (Explain text) (ap named (begins_with words (codes "explain") begins)) (none text)
 
 pub no_instance : (words : List (List ℕ)) → slice_get words 0 ≡ Some (codes "instance") → ((name : List ℕ) → HasOneValue words (codes "instance") name → ⊥) → HasNoForm words
-no_instance words begins none (Instance name) form = none name form
-no_instance words begins none command form = omega (arith, same_letter words (first_text command) (codes "instance") (first_word words command form) begins)
+no_instance words begins none =
+    let name = second (codes "instance" ∷ drop 1 words) in
+    unformed words (Instance name) (ap named (begins_with words (codes "instance") begins)) (none name)
 
 pub no_check : (words : List (List ℕ)) → slice_get words 0 ≡ Some (codes "check") → ((name : List ℕ) → HasOneValue words (codes "check") name → ⊥) → HasNoForm words
-no_check words begins none (Check name) form = none name form
-no_check words begins none command form = omega (arith, same_letter words (first_text command) (codes "check") (first_word words command form) begins)
+no_check words begins none =
+    let name = second (codes "check" ∷ drop 1 words) in
+    unformed words (Check name) (ap named (begins_with words (codes "check") begins)) (none name)
 
 pub no_compose : (words : List (List ℕ)) → slice_get words 0 ≡ Some (codes "compose") → ((0 < length (drop 1 words)) × All IsValue (drop 1 words) → ⊥) → HasNoForm words
-no_compose words begins none (Compose texts) form =
-    none (subst (λ ts. (0 < length ts) × All IsValue ts) (sym (ap (λ ws. drop 1 ws) form.words_are)) (form.some, form.are_values))
-no_compose words begins none command form = omega (arith, same_letter words (first_text command) (codes "compose") (first_word words command form) begins)
+no_compose words begins none =
+    unformed words (Compose (drop 1 words)) (ap named (begins_with words (codes "compose") begins)) (λ form. none (form.some, form.are_values))
 
 -- the words are `compose` and the texts behind it
 pub compose_form : (words : List (List ℕ)) → slice_get words 0 ≡ Some (codes "compose") → (0 < length (drop 1 words)) × All IsValue (drop 1 words) → HasTexts words (drop 1 words)
-compose_form [] begins are = absurd (none-some (codes "compose") begins)
-compose_form (word ∷ texts) begins are = record { words_are = ap (λ w. w ∷ texts) (same_Some word (codes "compose") begins); some = are.0; are_values = are.1 }
+compose_form words begins are = record { words_are = begins_with words (codes "compose") begins; some = are.0; are_values = are.1 }
 
 -- ---- the first word
 

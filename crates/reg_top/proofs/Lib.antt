@@ -9,6 +9,5 @@ pub mod Compositions
 pub mod SavedLines
 pub mod Parts
 pub mod Makings
-pub mod Runs
 pub mod LoneRuns
 pub mod WorkedCheck

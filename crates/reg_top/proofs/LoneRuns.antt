@@ -1,5 +1,5 @@
 -- Runs whose rounds have one session each.
-use Rattle.std.proofs.Common.{◌≡◌, ℕ, ◌<◌, ◌≤◌, true, List, [], ◌∷◌, ◌++◌, map, length, drop, Some, refl, sym, ◌∙◌, ap, ap₂, subst, arith, append-nil, append_assoc}
+use Rattle.std.proofs.Common.{◌≡◌, ℕ, true, List, [], ◌∷◌, ◌++◌, map, length, drop, refl, sym, ◌∙◌, ap, ap₂, subst, arith}
 use Rattle.std.specs.Prelude.{All, ◌==◌}
 use Rattle.std.specs.List.{AllZip, AllByRecursion}
 use Rattle.std.proofs.lemmas.Option.{same_Some}
@@ -8,9 +8,9 @@ use Rattle.reg_model.specs.declared.call.Call.{Call}
 use Rattle.reg_model.specs.declared.reply.Row.{Row}
 use Rattle.reg_model.specs.Limits.{Limits}
 use Rattle.reg_model.specs.Opening.{Opening, IsOpening}
-use Rattle.reg_model.specs.Rows.{MayFollow, EachAfter, IsLawful, AsksLogFirst, log_of, session_rows}
+use Rattle.reg_model.specs.Rows.{MayFollow, EachAfter, IsLawful, AsksLogFirst, session_rows}
 use Rattle.reg_model.specs.Runs.{RoundRows, next_opening, IsLawfulRound, IsLawfulRun}
-use Rattle.reg_model.proofs.Rising.{live_rising, live_below}
+use Rattle.reg_model.proofs.LawfulRounds.{next_opens}
 use Rattle.reg_model.proofs.LoneRounds.{lone_round}
 use Rattle.reg_requests.specs.declared.items.Item.{Item}
 use Rattle.reg_requests.specs.Requests.{AreItems, calls_of}
@@ -18,8 +18,11 @@ use Rattle.reg_requests.proofs.FileItems.{one_list}
 use Rattle.reg_history.specs.History.{history_text}
 use Rattle.reg_session.specs.Files.{Files}
 use Rattle.reg_top.specs.Fetches.{RoundPlan}
-use Rattle.reg_top.specs.commands.Run.{reply_texts, MakesCalls, IsFileOf, AskLogFirst, IsRunOutput}
-use Rattle.reg_top.specs.Laws.{LonePlansTellOutput}
+use Rattle.reg_top.specs.Fetches.Command.{Run}
+use Rattle.reg_top.specs.Words.{IsForm}
+use Rattle.reg_top.proofs.Forms.{one_form}
+use Rattle.reg_top.specs.commands.Run.{IsRunOutput, reply_texts, MakesCalls, IsFileOf, AskLogFirst}
+use Rattle.reg_top.specs.Laws.{LoneWordsTellOutput}
 
 -- ---- lists side by side
 
@@ -96,18 +99,6 @@ alone limits opening before (row ∷ rows) lone each =
 
 -- ---- rounds
 
-log_fits : (limits : Limits) (opening : Opening) (before rows : List Row) → EachAfter (MayFollow limits opening) before rows → length (log_of before) ≤ limits.log → length (log_of (before ++ rows)) ≤ limits.log
-log_fits limits opening before [] each fits = subst (λ all. length (log_of all) ≤ limits.log) (sym (append-nil before)) fits
-log_fits limits opening before (row ∷ rows) each fits =
-    let follows : MayFollow limits opening before row = each.0 in
-    subst (λ all. length (log_of all) ≤ limits.log) (append_assoc before (row ∷ []) rows)
-    (log_fits limits opening (before ++ row ∷ []) rows each.1 (omega (arith, follows.point, follows.within)))
-
-next_opens : (opening : Opening) (round : RoundRows) → IsOpening opening → IsLawfulRound opening round → IsOpening (next_opening opening round.rows)
-next_opens opening round opens lawful =
-    let fits = log_fits round.limits opening [] round.rows lawful.rows (omega arith) in
-    record { base = omega (arith, lawful.ids, fits); rising = live_rising opening (log_of round.rows) opens; below = live_below opening (log_of round.rows) opens }
-
 abbrev round_of : Limits → List Row → RoundRows
 round_of limits rows = record { limits = limits; rows = rows }
 
@@ -151,8 +142,9 @@ rounds_same opening (l ∷ ls) (a ∷ xs) (b ∷ ys) one sizes lone made made' o
 
 -- ---- the output
 
-pub lone_runs : LonePlansTellOutput
-lone_runs opening plan files served other output more lone a b =
+lone_plans : (opening : Opening) (plan : List RoundPlan) (files : Files) (served other : List RoundRows) (output more : List ℕ)
+    → All IsLone plan → IsRunOutput opening plan files served output → IsRunOutput opening plan files other more → (served ≡ other) × (output ≡ more)
+lone_plans opening plan files served other output more lone a b =
     let items : a.items ≡ b.items = items_same plan files a.items b.items a.read b.read in
     let planned : AllByRecursion IsLone plan = recursion_from_All IsLone plan lone in
     let ones : AllByRecursion HasOne a.items = each_one files plan a.items planned (recursion_from_All IsNamed plan a.callers) a.read in
@@ -160,3 +152,11 @@ lone_runs opening plan files served other output more lone a b =
     rounds_same opening a.items served other ones (sym a.sizes ∙ b.sizes) (lone_rounds plan served a.sizes planned) a.calls
     (subst (λ is. AllZip MakesCalls is other) (sym items) b.calls) a.lawful.opens a.lawful.lawful b.lawful.lawful a.alone b.alone in
     (rounds, a.text ∙ ap₂ (λ is rs. reply_texts 0 is rs ++ history_text opening rs) items rounds ∙ sym b.text)
+
+same_plan : (words : List (List ℕ)) (plan again : List RoundPlan) → IsForm words (Run plan) → IsForm words (Run again) → again ≡ plan
+same_plan words plan again form other = let same : Run again ≡ Run plan = one_form words (Run again) (Run plan) other form in cc
+
+pub lone_runs : LoneWordsTellOutput
+lone_runs words plan again files opening served other output more form repeated lone a b =
+    lone_plans opening plan files served other output more lone a
+    (subst (λ p. IsRunOutput opening p files other more) (same_plan words plan again form repeated) b)

@@ -1,5 +1,5 @@
 -- From what the parts of a command tell to how it ends.
-use Rattle.std.proofs.Common.{◌≡◌, ℕ, ◌<◌, ◌≤◌, ◌^◌, List, [], ◌∷◌, length, Option, Some, Result, Ok, Err, refl, sym, ◌∙◌, ap, subst, arith, lit<}
+use Rattle.std.proofs.Common.{◌≡◌, ℕ, ◌≤◌, List, [], ◌∷◌, length, Some, Result, Ok, Err, refl, sym, subst, lit<}
 use Rattle.std.specs.Prelude.{IfSome, IsSomeAnd, Contains, All, MatchResult, IsErr}
 use Rattle.std.proofs.lemmas.Bool.{false≢true}
 use Rattle.std.proofs.lemmas.List.Elements.{All-nil, All-cons}
@@ -18,7 +18,7 @@ use Rattle.reg_top.specs.declared.ending.Declined.TheVariants as declines
 use Rattle.reg_top.specs.Fetches.{Command, Fetch, fetches}
 use Rattle.reg_top.specs.Dispatch.{Refuses}
 use Rattle.reg_top.specs.Outcomes.{GivenBy, IsHeld}
-use Rattle.reg_top.specs.inner.Endings.{unread_line, declined_ending, declined_line, UnreadWhy, Fetched, GivesNone, Makes, Ends}
+use Rattle.reg_top.specs.inner.Endings.{unread_line, declined_ending, declined_line, UnreadWhy, Fetched, Makes, Ends}
 use Rattle.reg_top.proofs.Endings.{always}
 
 -- ---- what was fetched

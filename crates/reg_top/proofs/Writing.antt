@@ -3,7 +3,7 @@ use Rattle.std.proofs.Common.{◌≡◌, ℕ, List, [], ◌++◌, take, drop, Op
 use Rattle.std.specs.Prelude.{IfSome}
 use Rattle.std.proofs.lemmas.List.{take-append-drop}
 use Rattle.reg_session.specs.Faults.{Rose, Quiet}
-use Rattle.reg_session.specs.Outside.{SinkView, sink_view, TakesWhole, TakesPart, Tells}
+use Rattle.reg_session.specs.Outside.{sink_view, TakesWhole, TakesPart, Tells}
 
 -- the bytes before the rest are taken, and no fault came
 pub record Written (before now : Option (List ℕ)) (faults_before faults : ℕ) (bytes rest : List ℕ) : Type 0 where

@@ -1,5 +1,5 @@
 -- What each command writes, and why it refuses what it is given.
-use Rattle.std.specs.Prelude.{◌≡◌, ℕ, List}
+use Rattle.std.specs.Prelude.{ℕ, List}
 use Rattle.reg_model.specs.Runs.{RoundRows, nothing}
 use Rattle.reg_session.specs.Files.{Files}
 use Rattle.reg_top.specs.declared.refusal.Refusal.{Refusal}

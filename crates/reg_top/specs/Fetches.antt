@@ -1,10 +1,7 @@
 -- The commands, and the files that each of them fetches.
-use Rattle.std.specs.Prelude.{ℕ, List, [], ◌∷◌, map}
+use Rattle.std.specs.Prelude.{ℕ, ◌^◌, List, [], ◌∷◌, map}
 use Rattle.std.specs.List.{flat_map}
 use Rattle.reg_model.specs.Limits.{Limits}
-use Rattle.reg_top.specs.declared.commands.run.TheConstants.{REQUEST_MOST}
-use Rattle.reg_top.specs.declared.commands.instance.TheConstants.{HASHED_MOST}
-use Rattle.reg_top.specs.declared.commands.check.TheConstants.{HISTORY_MOST}
 
 -- a round's sizes, and the names of its sessions' files
 pub record RoundPlan : Type 0 where
@@ -30,8 +27,8 @@ fetch_of limit name = record { name = name; limit = limit }
 
 -- the files that a command fetches, in order
 abbrev pub fetches : Command → List Fetch
-fetches (Run plan) = map (fetch_of REQUEST_MOST) (flat_map (λ round. round.names) plan)
+fetches (Run plan) = map (fetch_of (2 ^ 24)) (flat_map (λ round. round.names) plan)
 fetches (Explain text) = []
 fetches (Compose texts) = []
-fetches (Instance name) = fetch_of HASHED_MOST name ∷ []
-fetches (Check name) = fetch_of HISTORY_MOST name ∷ []
+fetches (Instance name) = fetch_of (2 ^ 28) name ∷ []
+fetches (Check name) = fetch_of (2 ^ 28) name ∷ []

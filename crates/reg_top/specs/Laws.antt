@@ -4,10 +4,13 @@ use Rattle.reg_model.specs.Opening.{Opening}
 use Rattle.reg_model.specs.Runs.{RoundRows}
 use Rattle.reg_session.specs.Files.{Files}
 use Rattle.reg_top.specs.Fetches.{RoundPlan}
+use Rattle.reg_top.specs.Fetches.Command.{Run}
+use Rattle.reg_top.specs.Words.{IsForm}
 use Rattle.reg_top.specs.commands.Run.{IsRunOutput}
 
--- where each round has one session, the planned files have one run, and one output
-abbrev pub LonePlansTellOutput : Type 0
-LonePlansTellOutput = (opening : Opening) (plan : List RoundPlan) (files : Files) (served other : List RoundRows) (output more : List ℕ)
-    → All (λ (p : RoundPlan). p.limits.callers ≡ 1) plan → IsRunOutput opening plan files served output → IsRunOutput opening plan files other more
+-- where each round has one session, words and files have one run, and one output
+abbrev pub LoneWordsTellOutput : Type 0
+LoneWordsTellOutput = (words : List (List ℕ)) (plan again : List RoundPlan) (files : Files) (opening : Opening) (served other : List RoundRows) (output more : List ℕ)
+    → IsForm words (Run plan) → IsForm words (Run again) → All (λ (p : RoundPlan). p.limits.callers ≡ 1) plan
+    → IsRunOutput opening plan files served output → IsRunOutput opening again files other more
     → (served ≡ other) × (output ≡ more)

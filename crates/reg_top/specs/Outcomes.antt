@@ -1,7 +1,6 @@
 -- How a call of the program ends, and why.
-use Rattle.std.specs.Prelude.{◌≡◌, ◌⊎◌, ℕ, ◌-◌, ◌<◌, ◌≤◌, ◌^◌, List, [], ◌∷◌, ◌++◌, length, All, Contains, Option, None, IfSome, IsSomeAnd, codes}
+use Rattle.std.specs.Prelude.{◌≡◌, ◌↔◌, ◌⊎◌, ℕ, ◌<◌, ◌≤◌, List, [], ◌∷◌, ◌++◌, length, All, Contains, Option, None, IfSome, IsSomeAnd}
 use Rattle.reg_model.specs.Runs.{RoundRows}
-use Rattle.reg_requests.specs.Lines.{line}
 use Rattle.reg_session.specs.Faults.{Rose, Quiet}
 use Rattle.reg_session.specs.Files.{Files}
 use Rattle.reg_session.specs.Outside.{Outside, TakesWhole, TakesPart, Tells}
@@ -43,11 +42,6 @@ IsGiven command before after = (fetches command ≡ [])
 
 -- ---- the cause of each status
 
--- The status comes only where P holds, and where P holds it comes, unless memory is wanting.
-pub record Exactly (status number : ℕ) (P : Type 0) : Type 0 where
-  pub only : status ≡ number → P
-  pub where_it_holds : P → (status ≡ number) ⊎ (status ≡ 6)
-
 -- no command has these words
 abbrev pub HasNoForm : List (List ℕ) → Type 0
 HasNoForm words = (command : Command) → IsForm words command → ⊥
@@ -67,7 +61,7 @@ pub record TellsFile (command : Command) (before after : Outside) (HasFault : Fi
   pub fetch : Fetch
   pub one : Contains (fetches command) fetch
   pub fault : IfSome before.shelf.files (λ files. IsReached command files fetch × HasFault files fetch)
-  pub quiet : before.shelf.faults < 2 ^ 64 - 1 → after.shelf.faults ≡ before.shelf.faults
+  pub quiet : after.shelf.faults ≡ before.shelf.faults
   pub told : Tells before.sink after.sink (line_of fetch.name)
 
 -- a status that tells the fault of a file: only with that cause, and there, where no fetch failed, unless memory is wanting
@@ -120,8 +114,9 @@ statuses = 0 ∷ 2 ∷ 3 ∷ 4 ∷ 5 ∷ 6 ∷ 7 ∷ 10 ∷ []
 
 -- How a call with these words ends with a status, where it served these rounds.
 pub record IsOutcome (words : List (List ℕ)) (before after : Outside) (served : List RoundRows) (status : ℕ) : Type 0 where
-  pub no_form : Exactly status 2 (HasNoForm words)
-  pub words_told : status ≡ 2 → Tells before.sink after.sink words_line
+  pub no_form : (status ≡ 2) ↔ HasNoForm words
+  -- then no file is asked for
+  pub words_told : status ≡ 2 → (after.shelf ≡ before.shelf) × Tells before.sink after.sink words_line
   pub ends : (command : Command) → IsForm words command → EndsWith command before after served status
   pub known : Contains statuses status
   pub same : after.shelf.files ≡ before.shelf.files

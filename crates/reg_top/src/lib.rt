@@ -24,7 +24,7 @@ mod words;
 mod write;
 
 pub use args::Args;
-pub use laws::a_lone_plan_has_one_output;
+pub use laws::words_of_lone_sessions_have_one_output;
 pub use reg_session::{Failed, FetchFault, ListShelf, ListSink, Shelf, Sink, SureShelf, SureSink};
 pub use side_commands::side;
 pub use top_call::top;

@@ -8,8 +8,7 @@ ghost use Rattle.reg_session.specs.Outside.{outside};
 ghost use Rattle.reg_top.specs.Fetches.{RoundPlan};
 ghost use Rattle.reg_top.specs.Fetches.Command.{Run};
 ghost use Rattle.reg_top.specs.Words.{IsForm};
-ghost use Rattle.reg_top.specs.commands.Run.{WritesRun};
-ghost use Rattle.reg_top.specs.Outcomes.{IsOutcome};
+ghost use Rattle.reg_top.specs.Outcomes.{Writes, IsOutcome};
 
 use crate::args::Args;
 use crate::commands::run::run_command;
@@ -19,11 +18,13 @@ use std::alloc::Global;
 
 /// Does what the words say, and answers the status: docs/FORMATS.md has the words and the statuses.
 ///
-/// Always returns. On status 5 the sink has a front of the output, and on every other status but 0 a line that tells it.
+/// Always returns. On status 5 the sink has a front of the output, and on every other status but 0 a line that tells it, or a
+/// front of that line where the sink failed.
 pub fn top<F: Shelf, K: Sink>(alloc: Global, words: &Args, shelf: &mut F, sink: &mut K) -> u8
     // The output holds one history: each call of the named files once, in its file's order, with the registry's reply there.
-    ensures run { (plan : List RoundPlan) → IsForm words.now (Run plan) → result ≡ 0
-        → WritesRun plan (F.files shelf.old) (K.taken sink.old) (K.taken sink.new) }
+    ensures run { (plan : List RoundPlan) → IsForm words.now (Run plan) → result ≡ 0 → (served : List RoundRows) × Writes (Run plan)
+        (outside (F.files shelf.old) (F.fetch_faults shelf.old) (K.taken sink.old) (K.faults sink.old))
+        (outside (F.files shelf.new) (F.fetch_faults shelf.new) (K.taken sink.new) (K.faults sink.new)) served }
 
     // The text of a `declare` or a `near` line is taken as an ISCC exactly where it stands for one.
     ensures text { (line text : List ℕ) (read : ALine) → ReadsLine line read → HasIsccText (line_words line) text → TakesIscc text read }

@@ -13,7 +13,7 @@ use Rattle.reg_model.specs.Limits.{Limits}
 use Rattle.reg_model.specs.Opening.{Opening, IsOpening, IsRising}
 use Rattle.reg_model.specs.Rows.{log_of, MayFollow, EachAfter}
 use Rattle.reg_model.specs.Runs.{RoundRows, next_opening, closing, IsLawfulRound, IsLawfulRun, IsHistory}
-use Rattle.reg_model.proofs.Rising.{live_rising, live_below}
+use Rattle.reg_model.proofs.LawfulRounds.{log_fits, next_opens}
 use Rattle.reg_requests.specs.Lines.{line}
 use Rattle.reg_history.specs.declared.lines.told.HistoryLine.{HistoryLine}
 use Rattle.reg_history.specs.declared.lines.told.HistoryLine.TheVariants as lines
@@ -23,7 +23,7 @@ use Rattle.reg_history.specs.declared.check.fault.CheckWhy.TheVariants as why
 use Rattle.reg_history.specs.History.{carry_line, round_line, row_line, rounds_text, end_line, history_text}
 use Rattle.reg_history.specs.lines.Values.{IsDeclaredValue, IsRowValue, IsRunValue}
 use Rattle.reg_history.specs.lines.HistoryLines.{whole_line, IsToldRoundValue}
-use Rattle.reg_history.specs.check.Checking.{Front, Nothing, Carried, Serving, after, after_all, begun, OpensRound, EndsWith, IsAllowed, Owes, CanStand, EachStands, IsHistoryOf}
+use Rattle.reg_history.specs.check.Checking.{Front, Nothing, Carried, Serving, after, after_all, begun, OpensRound, HasEndNumbers, IsAllowed, Owes, CanStand, EachStands, IsHistoryOf}
 use Rattle.reg_history.proofs.RunValues.{live_few}
 use Rattle.reg_history.proofs.lines.RunsBack.{AreRows}
 use Rattle.reg_history.proofs.check.LinesToHistory.{closing-push}
@@ -61,7 +61,7 @@ rounds_are number opening (round ∷ rounds) =
 grouped : (head carried rounds end all : List ℕ) → all ≡ (head ++ (carried ++ rounds)) ++ end → all ≡ ((head ++ carried) ++ rounds) ++ end
 grouped head carried rounds end all e = e ∙ simp append_assoc
 
-history_is : (opening : Opening) (rounds : List RoundRows) (rows live : ℕ) → EndsWith opening rounds rows live
+history_is : (opening : Opening) (rounds : List RoundRows) (rows live : ℕ) → HasEndNumbers opening rounds rows live
     → history_text opening rounds ≡ flat_map whole_line (history_lines opening rounds ++ lines.End rows live ∷ [])
 unfolding history_text
 history_is opening rounds rows live ends =
@@ -98,18 +98,6 @@ carries_stand done (d ∷ list) rest rising values behind =
     )
 
 -- ---- what a lawful round leaves
-
-log_fits : (limits : Limits) (opening : Opening) (before rows : List Row) → EachAfter (MayFollow limits opening) before rows → length (log_of before) ≤ limits.log → length (log_of (before ++ rows)) ≤ limits.log
-log_fits limits opening before [] each fits = subst (λ all. length (log_of all) ≤ limits.log) (sym (append-nil before)) fits
-log_fits limits opening before (row ∷ rows) each fits =
-    let follows : MayFollow limits opening before row = each.0 in
-    subst (λ all. length (log_of all) ≤ limits.log) (append_assoc before (row ∷ []) rows)
-    (log_fits limits opening (before ++ row ∷ []) rows each.1 (omega (arith, follows.point, follows.within)))
-
-next_opens : (opening : Opening) (round : RoundRows) → IsOpening opening → IsLawfulRound opening round → IsOpening (next_opening opening round.rows)
-next_opens opening round opens lawful =
-    let fits = log_fits round.limits opening [] round.rows lawful.rows (omega arith) in
-    record { base = omega (arith, lawful.ids, fits); rising = live_rising opening (log_of round.rows) opens; below = live_below opening (log_of round.rows) opens }
 
 -- how many declarations a run may leave
 closing_few : (opening : Opening) (rounds : List RoundRows) → IsLawfulRun opening rounds → length opening.list ≤ 2 ^ 23 → length (closing opening rounds).list ≤ 2 ^ 23
@@ -196,7 +184,7 @@ first_owes opening limits value opens why.Form = (tt, value)
 first_owes opening limits value opens why.Round = opens
 first_owes opening limits value opens cause = tt
 
-end_owes : (first : Opening) (ended : List RoundRows) (now : RoundRows) (rows live : ℕ) → (rows < 2 ^ 64) × (live < 2 ^ 64) → EndsWith first (ended ++ now ∷ []) rows live
+end_owes : (first : Opening) (ended : List RoundRows) (now : RoundRows) (rows live : ℕ) → (rows < 2 ^ 64) × (live < 2 ^ 64) → HasEndNumbers first (ended ++ now ∷ []) rows live
     → (cause : CheckWhy) → Owes (Serving first ended now) (lines.End rows live) cause
 end_owes first ended now rows live low ends why.Form = (tt, low)
 end_owes first ended now rows live low ends why.End = ends
@@ -227,7 +215,7 @@ run_stands : (first : Opening) (ended : List RoundRows) (opening : Opening) (num
     → EachStands (Serving first ended (begun (round_told number opening.base round.limits))) (map line_of_row round.rows ++ (rounds_lines (number + 1) (next_opening opening round.rows) rounds ++ lines.End rows live ∷ []))
 run_stands first ended opening number round [] rows live is =
     let now = ended_round round in
-    let ends : EndsWith first (ended ++ now ∷ []) rows live = record {
+    let ends : HasEndNumbers first (ended ++ now ∷ []) rows live = record {
       rows_are = omega (arith, is.all_rows, sum_by_push row_count ended now);
       live_are = is.left ∙ ap (λ (o : Opening). length o.list) (left_behind first ended opening round is.begins);
     } in
@@ -285,7 +273,7 @@ head_owes cause = tt
 
 -- a history begins with its first round
 run_begins : (opening : Opening) (round : RoundRows) (rounds : List RoundRows) (rows live : ℕ) → IsHistory opening (round ∷ rounds) → IsRunValue opening (round ∷ rounds)
-    → EndsWith opening (round ∷ rounds) rows live → (rows < 2 ^ 64) × (live < 2 ^ 64) → GoesOn opening [] opening 0 round rounds rows live
+    → HasEndNumbers opening (round ∷ rounds) rows live → (rows < 2 ^ 64) × (live < 2 ^ 64) → GoesOn opening [] opening 0 round rounds rows live
 run_begins opening round rounds rows live is values ends low =
     let lawful = is.lawful in
     record {
@@ -302,7 +290,7 @@ run_begins opening round rounds rows live is values ends low =
       low = low;
     }
 
-history_stands : (opening : Opening) (rounds : List RoundRows) (rows live : ℕ) → IsHistory opening rounds → IsRunValue opening rounds → EndsWith opening rounds rows live
+history_stands : (opening : Opening) (rounds : List RoundRows) (rows live : ℕ) → IsHistory opening rounds → IsRunValue opening rounds → HasEndNumbers opening rounds rows live
     → (rows < 2 ^ 64) × (live < 2 ^ 64) → EachStands Nothing (history_lines opening rounds ++ lines.End rows live ∷ [])
 history_stands opening [] rows live is values ends low = absurd (omega (arith, is.some))
 history_stands opening (round ∷ rounds) rows live is values ends low =
@@ -339,7 +327,7 @@ pub history_is_lines : (text : List ℕ) (rows live : ℕ) → length text < 2 ^
 history_is_lines text rows live low is =
     let lawful = is.lawful in
     let before = history_lines is.opening is.rounds in
-    let ends : EndsWith is.opening is.rounds rows live = record { rows_are = is.all_rows; live_are = is.left } in
+    let ends : HasEndNumbers is.opening is.rounds rows live = record { rows_are = is.all_rows; live_are = is.left } in
     let numbers : (rows < 2 ^ 64) × (live < 2 ^ 64) = (
       omega (arith, low, is.all_rows, ap length is.is, history_long is.opening is.rounds),
       omega (arith, is.left, closing_few is.opening is.rounds lawful.lawful (carried_few is.opening is.rounds lawful)),

@@ -29,7 +29,7 @@ use Rattle.reg_history.specs.declared.check.fault.CheckWhy.TheVariants as why
 use Rattle.reg_history.specs.History.{carry_line, round_line, row_line, rounds_text, end_line, history_text}
 use Rattle.reg_history.specs.lines.Values.{IsDeclaredValue, IsHitValue, IsReplyValue, IsRowValue}
 use Rattle.reg_history.specs.lines.HistoryLines.{told_limits, told_hit_text, told_reply_text, told_row_line, hit_in, reply_in, row_in, whole_line, IsToldHitValue, IsToldReplyValue, IsToldRowValue}
-use Rattle.reg_history.specs.check.Checking.{Front, Nothing, Carried, Serving, Ended, after, after_all, begun, HasKind, OpensRound, EndsWith, CanStand, EachStands, IsHistoryOf}
+use Rattle.reg_history.specs.check.Checking.{Front, Nothing, Carried, Serving, Ended, after, after_all, begun, HasKind, OpensRound, HasEndNumbers, CanStand, EachStands, IsHistoryOf}
 use Rattle.reg_history.proofs.lines.RunsBack.{AreRows}
 
 -- ---- rounds, with one more behind them
@@ -245,7 +245,7 @@ all_lines front (told ∷ more) text stand so_far =
 -- ---- the end
 
 history_is : (opening : Opening) (rounds : List RoundRows) (rows live : ℕ) (text : List ℕ) → text ≡ (head_line ++ flat_map carry_line opening.list) ++ rounds_text 0 opening rounds
-    → EndsWith opening rounds rows live → text ++ end_line rows live ≡ history_text opening rounds
+    → HasEndNumbers opening rounds rows live → text ++ end_line rows live ≡ history_text opening rounds
 unfolding history_text
 history_is opening rounds rows live text is ends = ap₂ (λ t e. t ++ e) is (ap₂ end_line ends.rows_are ends.live_are)
 
@@ -255,7 +255,7 @@ run_text text before rounds now all e f = rw (e, f) (simp append_assoc)
 end_is : (front : Front) (rows live : ℕ) (text : List ℕ) → CanStand front (lines.End rows live) → IsTextOf front text → IsHistoryOf (text ++ end_line rows live) rows live
 end_is (Serving opening rounds now) rows live text stands so_far =
     let all = rounds ++ now ∷ [] in
-    let ends : EndsWith opening all rows live = stands why.End in
+    let ends : HasEndNumbers opening all rows live = stands why.End in
     let longer : length all ≡ length rounds + 1 = length_push rounds now in
     let whole : text ≡ (head_line ++ flat_map carry_line opening.list) ++ rounds_text 0 opening all =
     run_text text (head_line ++ flat_map carry_line opening.list) (rounds_text 0 opening rounds) (round_text (length rounds) (closing opening rounds) now) (rounds_text 0 opening all) so_far.is (run_text-push opening rounds now) in

@@ -36,7 +36,7 @@ use Rattle.reg_history.specs.declared.check.fault.CheckWhy.{CheckWhy}
 use Rattle.reg_history.specs.declared.check.serving.LastRow.{LastRow}
 use Rattle.reg_history.specs.declared.check.fault.CheckWhy.TheVariants as why
 use Rattle.reg_history.specs.lines.HistoryLines.{told_limits, row_in, reply_in, IsToldRowValue}
-use Rattle.reg_history.specs.check.Checking.{begun, OpensRound, RowOwes, EndsWith, rank}
+use Rattle.reg_history.specs.check.Checking.{begun, OpensRound, RowOwes, HasEndNumbers, rank}
 use Rattle.reg_history.specs.inner.Ledgers.{LedgerParts, Keeps, MayAdd}
 use Rattle.reg_history.specs.inner.Serving.{ServingParts, last_of, registry_of, KeepsRun, longer, HasRoom, RowStands, RowFails}
 use Rattle.reg_history.proofs.check.LinesToHistory.{closing-push}
@@ -137,7 +137,7 @@ pub eq_test : (m n : ℕ) → IsTrue (m == n) ↔ (m ≡ n)
 eq_test m n = (λ h. grind (arith, nat_tests, h), λ e. grind (arith, nat_tests, e))
 
 pub ends_owed : (parts : ServingParts) (opening : Opening) (ended : List RoundRows) (now : RoundRows) (rows live_rows : ℕ) (t : Bool) → KeepsRun parts opening ended now
-    → (IsTrue t ↔ ((rows ≡ parts.rows) × (live_rows ≡ length (live (closing opening ended) (log_of now.rows))))) → IsTrue t ↔ EndsWith opening (ended ++ now ∷ []) rows live_rows
+    → (IsTrue t ↔ ((rows ≡ parts.rows) × (live_rows ≡ length (live (closing opening ended) (log_of now.rows))))) → IsTrue t ↔ HasEndNumbers opening (ended ++ now ∷ []) rows live_rows
 ends_owed parts opening ended now rows live_rows t s both =
     let total : parts.rows ≡ sum_by rows_in (ended ++ now ∷ []) = omega (arith, s.rows, sum_by_push rows_in ended now) in
     let left : length (live (closing opening ended) (log_of now.rows)) ≡ length (closing opening (ended ++ now ∷ [])).list = ap (λ (o : Opening). length o.list) (sym (closing-push opening ended now)) in (

@@ -1,5 +1,5 @@
 -- What a look-up by id says of the live declarations, and the reply that tells it.
-use Rattle.std.proofs.Common.{◌≡◌, ℕ, Bool, true, false, ◌&&◌, ◌==◌, List, [], ◌∷◌, find, Option, Some, None, refl, sym, ap, ap₂, arith}
+use Rattle.std.proofs.Common.{◌≡◌, ℕ, Bool, true, false, ◌&&◌, ◌==◌, List, find, Option, Some, None, refl, sym, ap, ap₂, arith}
 use Rattle.std.specs.Prelude.{IfSome, IfNone, IsSome, IsTrue, is_some, ◌↔◌}
 use Rattle.std.proofs.lemmas.Bool.{true≢false}
 use Rattle.std.proofs.lemmas.Bool.Decides.{nat_tests}

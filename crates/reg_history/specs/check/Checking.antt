@@ -99,7 +99,7 @@ RowOwes opening now row why.Reply = Replies now.limits opening (log_of now.rows)
 RowOwes opening now row other = Unit {0}
 
 -- the numbers of the end line
-pub record EndsWith (opening : Opening) (rounds : List RoundRows) (rows live : ℕ) : Type 0 where
+pub record HasEndNumbers (opening : Opening) (rounds : List RoundRows) (rows live : ℕ) : Type 0 where
   pub rows_are : rows ≡ sum_by (λ (round : RoundRows). length round.rows) rounds
   pub live_are : live ≡ length (closing opening rounds).list
 
@@ -110,7 +110,7 @@ Owes (Carried list) (lines.Carry declared) why.Round = All (λ (earlier : Declar
 Owes (Carried list) (lines.Round told) why.Round = OpensRound (opening_of told.base list) 0 told
 Owes (Serving opening ended now) (lines.Round told) why.Round = OpensRound (closing opening (ended ++ now ∷ [])) (length ended + 1) told
 Owes (Serving opening ended now) (lines.Row row) cause = RowOwes (closing opening ended) now row cause
-Owes (Serving opening ended now) (lines.End rows live) why.End = EndsWith opening (ended ++ now ∷ []) rows live
+Owes (Serving opening ended now) (lines.End rows live) why.End = HasEndNumbers opening (ended ++ now ∷ []) rows live
 Owes front line cause = Unit {0}
 
 -- the line can stand there

@@ -10,7 +10,7 @@ ghost use Rattle.reg_model.specs.Rows.{update_of, row_cmp};
 ghost use Rattle.reg_model.specs.Runs.{RoundRows, closing};
 ghost use Rattle.reg_history.specs.declared.check.fault.CheckWhy.TheVariants as whys;
 ghost use Rattle.reg_history.specs.lines.HistoryLines.{told_limits, row_in, reply_in, IsToldRowValue};
-ghost use Rattle.reg_history.specs.check.Checking.{begun, OpensRound, RowOwes, EndsWith};
+ghost use Rattle.reg_history.specs.check.Checking.{begun, OpensRound, RowOwes, HasEndNumbers};
 ghost use Rattle.reg_history.specs.inner.Ledgers.{Keeps, MayAdd};
 ghost use Rattle.reg_history.specs.inner.Serving.{KeepsRun, longer, last_of, HasRoom, RowStands, RowFails};
 
@@ -143,7 +143,7 @@ impl Serving {
     /// Whether these are the numbers of the end line.
     pub(crate) fn ends(&self, rows: u64, live: u64) -> bool
         ensures { (opening : Opening) (ended : List RoundRows) (now : RoundRows) → KeepsRun self.now opening ended now
-            → (IsTrue result ↔ EndsWith opening (ended ++ now ∷ []) rows live) }
+            → (IsTrue result ↔ HasEndNumbers opening (ended ++ now ∷ []) rows live) }
     {
         rows == self.rows && live == self.ledger.live_count()
     }

@@ -1,18 +1,17 @@
 -- `run FILE`: what it writes.
-use Rattle.std.specs.Prelude.{◌≡◌, ℕ, ◌+◌, List, [], ◌∷◌, ◌++◌, length, map, slice_get, All, Option, Some, IfSome, codes}
+use Rattle.std.specs.Prelude.{◌≡◌, ℕ, ◌+◌, List, [], ◌∷◌, ◌++◌, length, map, slice_get, All, Some, codes}
 use Rattle.std.specs.List.{AllZip}
 use Rattle.std.specs.Fmt.{decimal}
 use Rattle.reg_model.specs.declared.reply.Row.{Row}
 use Rattle.reg_model.specs.Opening.{Opening}
 use Rattle.reg_model.specs.Rows.{session_rows, AsksLogFirst}
-use Rattle.reg_model.specs.Runs.{RoundRows, IsHistory, next_opening, nothing}
+use Rattle.reg_model.specs.Runs.{RoundRows, IsHistory, next_opening}
 use Rattle.reg_requests.specs.declared.items.Item.{Item}
 use Rattle.reg_requests.specs.declared.items.Item.TheVariants as items
 use Rattle.reg_session.specs.Files.{Files}
 use Rattle.reg_requests.specs.Lines.{line, spaced, reply_text, bad_text, kind_of}
 use Rattle.reg_requests.specs.Requests.{AreItems, calls_of}
 use Rattle.reg_history.specs.History.{history_text}
-use Rattle.reg_session.specs.Outside.{TakesWhole}
 use Rattle.reg_top.specs.Fetches.{RoundPlan}
 use Rattle.reg_history.specs.lines.Values.{IsRunValue}
 
@@ -61,7 +60,3 @@ pub record IsRunOutput (opening : Opening) (plan : List RoundPlan) (files : File
   pub alone : AskLogFirst opening rounds
   pub values : IsRunValue opening rounds
   pub text : output ≡ reply_texts 0 items rounds ++ history_text opening rounds
-
--- Where the shelf tells its files and the sink its bytes, the sink has taken the output of the run, and nothing else.
-abbrev pub WritesRun : List RoundPlan → Option Files → Option (List ℕ) → Option (List ℕ) → Type 0
-WritesRun plan files before after = IfSome files (λ map. (rounds : List RoundRows) × (output : List ℕ) × IsRunOutput nothing plan map rounds output × TakesWhole before after output)

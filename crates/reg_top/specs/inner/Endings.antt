@@ -1,5 +1,5 @@
 -- How a command ends, as its parts tell it.
-use Rattle.std.specs.Prelude.{◌≡◌, ◌⊎◌, ℕ, ◌<◌, ◌≤◌, List, length, All, Contains, IfSome}
+use Rattle.std.specs.Prelude.{◌≡◌, ◌⊎◌, ℕ, List, All, Contains, IfSome}
 use Rattle.reg_model.specs.Runs.{RoundRows}
 use Rattle.reg_session.specs.declared.shelf.FetchFault.{FetchFault}
 use Rattle.reg_session.specs.declared.shelf.FetchFault.TheVariants as faults

@@ -1,17 +1,18 @@
 use Rattle.std.proofs.Common.{[]}
 use Rattle.reg_requests.specs.Words.{line_words}
 use Rattle.reg_requests.proofs.TakenIsccs.{takes_iscc}
-use Rattle.reg_top.proofs.Runs.{writes_run}
+use Rattle.reg_top.specs.Fetches.Command.{Run}
 use Rattle.reg_top.proofs.top_call.top.Goals as goal
 
 pub returns-in-Some-clause-run : goal.returns-in-Some-clause-run
-returns-in-Some-clause-run g c = λ plan form done. writes_run c.args.words.now _ _ [] c.in-Some.status plan c.in-Some.ensures.outcome form done
+returns-in-Some-clause-run g c = λ plan form done. let ends = c.in-Some.ensures.outcome.ends (Run plan) form in ([], ends.done done)
 
 pub returns-in-None-clause-run : goal.returns-in-None-clause-run
 returns-in-None-clause-run g c = λ plan form done.
     let same = c.in-None.ensures.untouched in
     let outcome = c.run_command.ensures in
-    rw (← same.0, ← same.1) (writes_run c.args.words.now _ _ outcome.0 c.run_command.result plan outcome.1 form done)
+    let ends = outcome.1.ends (Run plan) form in
+    (outcome.0, rw (← same.0, ← same.1) (ends.done done))
 
 pub returns-in-Some-clause-text : goal.returns-in-Some-clause-text
 returns-in-Some-clause-text g c = λ line text read reads has. takes_iscc (line_words line) text read has reads

@@ -1,10 +1,9 @@
-use Rattle.std.proofs.Common.{◌≡◌, [], refl}
+use Rattle.std.proofs.Common.{[], refl}
 use Rattle.reg_model.proofs.RowSteps.{IfSome-weaker}
 use Rattle.reg_requests.specs.Lines.{line}
 use Rattle.reg_session.specs.Outside.{outside}
 use Rattle.reg_top.specs.Fetches.{fetch_of}
 use Rattle.reg_top.specs.Fetches.Command.{Check}
-use Rattle.reg_top.specs.commands.Check.{lawful_text}
 use Rattle.reg_top.specs.declared.commands.check.TheConstants.{HISTORY_MOST}
 use Rattle.reg_top.proofs.Parts.{one_fetched, unread_ends, declined_ends, written_ends}
 use Rattle.reg_top.proofs.Makings.{check_makes, check_declines}

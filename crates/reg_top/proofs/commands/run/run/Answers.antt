@@ -1,5 +1,4 @@
-use Rattle.std.proofs.Common.{◌≡◌, [], Some, refl}
-use Rattle.std.specs.Prelude.{IfSome}
+use Rattle.std.proofs.Common.{[], refl}
 use Rattle.reg_model.proofs.RowSteps.{IfSome-weaker}
 use Rattle.reg_top.specs.Fetches.{fetch_of}
 use Rattle.reg_top.specs.Words.{plan_of}
