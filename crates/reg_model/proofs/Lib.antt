@@ -17,3 +17,5 @@ pub mod Merged
 pub mod WorkedAccounts
 pub mod LoneRounds
 pub mod LawfulRounds
+pub mod AccountSteps
+pub mod NewPasses

@@ -33,10 +33,10 @@ use Rattle.reg_model.proofs.RowSteps.{log_of-push, last-push}
 -- ---- claims
 
 -- 1 for a row that claims the place
-abbrev claim : ℕ → ℕ → Row → ℕ
+abbrev pub claim : ℕ → ℕ → Row → ℕ
 claim base place row = cond (claims base place row) 1 0
 
-abbrev one_if : Bool → ℕ
+abbrev pub one_if : Bool → ℕ
 one_if b = cond b 1 0
 
 claims_counted : (base place : ℕ) (rows : List Row) → sum_by (claim base place) rows ≡ count_by (claims base place) rows
@@ -46,12 +46,12 @@ claims_counted base place rows = is_count_by (sum_by (claim base place)) (claims
     one_more true n = refl
     one_more false n = omega arith
 
-claims_own : (base place : ℕ) (row : Row) → is_accepted row ≡ true → row.point ≡ base + place + 1 → claim base place row ≡ 1
+pub claims_own : (base place : ℕ) (row : Row) → is_accepted row ≡ true → row.point ≡ base + place + 1 → claim base place row ≡ 1
 claims_own base place row accepted at =
     let same : (row.point == base + place + 1) ≡ true = grind (arith, nat_tests, at) in
     ap₂ (λ a b. one_if (a && b)) accepted same
 
-claims_none : (base place : ℕ) (row : Row) → is_accepted row ≡ false → claim base place row ≡ 0
+pub claims_none : (base place : ℕ) (row : Row) → is_accepted row ≡ false → claim base place row ≡ 0
 claims_none base place row refused = ap (λ a. one_if (a && (row.point == base + place + 1))) refused
 
 not_both : (a b : Bool) → (b ≡ true → ⊥) → one_if (a && b) ≡ 0
@@ -59,7 +59,7 @@ not_both true true ne = absurd (ne refl)
 not_both true false ne = refl
 not_both false b ne = refl
 
-claims_other : (base place : ℕ) (row : Row) → (row.point ≡ base + place + 1 → ⊥) → claim base place row ≡ 0
+pub claims_other : (base place : ℕ) (row : Row) → (row.point ≡ base + place + 1 → ⊥) → claim base place row ≡ 0
 claims_other base place row ne = not_both (is_accepted row) (row.point == base + place + 1) (λ is. ne (grind (arith, nat_tests, is)))
 
 abbrev IsClaimer : ℕ → ℕ → (Row → Type 0) → Type 0

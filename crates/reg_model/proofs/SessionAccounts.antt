@@ -103,20 +103,20 @@ strict_filter s (row ∷ rows) h =
     elim (row.session == s) as (λ b. IsStrictlySortedBy row_cmp (cond b (row ∷ session_rows s rows) (session_rows s rows)))
     [ true ↦ (each_filter (λ r. row_cmp row r ≡ Less) s rows h.0, strict_filter s rows h.1) | false ↦ strict_filter s rows h.1 ]
 
-each_of : {X : Type 0} (P : X → Type 0) (xs : List X) (i : ℕ) (x : X) → AllByRecursion P xs → slice_get xs i ≡ Some x → P x
+pub each_of : {X : Type 0} (P : X → Type 0) (xs : List X) (i : ℕ) (x : X) → AllByRecursion P xs → slice_get xs i ≡ Some x → P x
 each_of P [] i x h e = absurd (cc)
 each_of P (y ∷ ys) zero x h e = subst P (same_Some y x e) h.0
 each_of P (y ∷ ys) (suc i) x h e = each_of P ys i x h.1 e
 
-each_left : (P : Row → Type 0) (xs ys : List Row) → AllByRecursion P (xs ++ ys) → AllByRecursion P xs
+pub each_left : (P : Row → Type 0) (xs ys : List Row) → AllByRecursion P (xs ++ ys) → AllByRecursion P xs
 each_left P [] ys h = tt
 each_left P (x ∷ xs) ys h = (h.0, each_left P xs ys h.1)
 
-each_right : (P : Row → Type 0) (xs ys : List Row) → AllByRecursion P (xs ++ ys) → AllByRecursion P ys
+pub each_right : (P : Row → Type 0) (xs ys : List Row) → AllByRecursion P (xs ++ ys) → AllByRecursion P ys
 each_right P [] ys h = h
 each_right P (x ∷ xs) ys h = each_right P xs ys h.1
 
-each_account : (P : Row → Type 0) (accounts : List (List Row)) (i : ℕ) (account : List Row) → AllByRecursion P (all_rows accounts) → slice_get accounts i ≡ Some account → AllByRecursion P account
+pub each_account : (P : Row → Type 0) (accounts : List (List Row)) (i : ℕ) (account : List Row) → AllByRecursion P (all_rows accounts) → slice_get accounts i ≡ Some account → AllByRecursion P account
 each_account P [] i account h e = absurd (cc)
 each_account P (first ∷ accounts) zero account h e = subst (AllByRecursion P) (same_Some first account e) (each_left P first (all_rows accounts) h)
 each_account P (first ∷ accounts) (suc i) account h e = each_account P accounts i account (each_right P first (all_rows accounts) h) e

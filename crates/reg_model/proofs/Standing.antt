@@ -25,7 +25,7 @@ log_of-append xs ys = filter_map-append (λ (r : Row). update_of r.call r.reply)
 log_of-cons : (row : Row) (rows : List Row) → log_of (row ∷ rows) ≡ option_to_list (update_of row.call row.reply) ++ log_of rows
 log_of-cons row rows = elim (update_of row.call row.reply) as (λ o. cons_option o (log_of rows) ≡ option_to_list o ++ log_of rows) [ None ↦ refl | Some u ↦ refl ]
 
-at_seam : (before rest : List Update) (u : Update) → slice_get (before ++ u ∷ rest) (length before) ≡ Some u
+pub at_seam : (before rest : List Update) (u : Update) → slice_get (before ++ u ∷ rest) (length before) ≡ Some u
 at_seam [] rest u = refl
 at_seam (x ∷ before) rest u = at_seam before rest u
 

@@ -1,5 +1,5 @@
 -- When the accounts of several sessions stand in one log.
-use Rattle.std.specs.Prelude.{◌≡◌, ℕ, ◌+◌, ◌<◌, ◌≤◌, Bool, ◌&&◌, ◌==◌, if◌then◌else◌, List, length, take, slice_get, count_by, All, AllPairs, Some}
+use Rattle.std.specs.Prelude.{◌≡◌, ℕ, zero, suc, ◌+◌, ◌<◌, ◌≤◌, Bool, ◌&&◌, ◌==◌, if◌then◌else◌, List, [], ◌∷◌, ◌++◌, length, take, slice_get, count_by, All, AllPairs, Some}
 use Rattle.reg_model.specs.declared.update.Update.{Update}
 use Rattle.reg_model.specs.declared.reply.Row.{Row}
 use Rattle.reg_model.specs.Limits.{Limits}
@@ -31,3 +31,14 @@ pub record ShareLog (limits : Limits) (opening : Opening) (log : List Update) (a
   pub seen : All (AllPairs IsSeenBy) accounts
   pub stand : All (StandsInLog limits opening log) (all_rows accounts)
   pub claimed : (place : ℕ) → place < length log → count_by (claims opening.base place) (all_rows accounts) ≡ 1
+
+-- the accounts with one row more in the account of this session
+abbrev pub with_row : List (List Row) → ℕ → Row → List (List Row)
+with_row [] session row = []
+with_row (account ∷ accounts) zero row = (account ++ row ∷ []) ∷ accounts
+with_row (account ∷ accounts) (suc session) row = account ∷ with_row accounts session row
+
+-- the row is the next of its session: it has the next number in that session's account
+pub record IsNextRow (accounts : List (List Row)) (account : List Row) (row : Row) : Type 0 where
+  pub session : slice_get accounts row.session ≡ Some account
+  pub number : row.number ≡ length account

@@ -1,5 +1,5 @@
 -- What the definitions determine.
-use Rattle.std.specs.Prelude.{◌≡◌, ℕ, List, map, All, AllPairs, Some, slice_get}
+use Rattle.std.specs.Prelude.{◌≡◌, ℕ, ◌+◌, ◌<◌, false, List, [], ◌∷◌, ◌++◌, length, map, replicate, All, AllPairs, Some, slice_get}
 use Rattle.iscc_header.specs.declared.unit.Unit64.{Unit64}
 use Rattle.reg_model.specs.declared.update.Declared.{Declared}
 use Rattle.reg_model.specs.declared.update.Update.{Update}
@@ -7,10 +7,10 @@ use Rattle.reg_model.specs.declared.reply.Hit.{Hit}
 use Rattle.reg_model.specs.declared.reply.Row.{Row}
 use Rattle.reg_model.specs.Limits.{Limits}
 use Rattle.reg_model.specs.Opening.{Opening, IsOpening}
-use Rattle.reg_model.specs.Replies.{AreHits}
-use Rattle.reg_model.specs.Rows.{log_of, session_rows, IsSeenBy, IsLawful, AsksLogFirst, IsMerge}
+use Rattle.reg_model.specs.Replies.{AreHits, Replies}
+use Rattle.reg_model.specs.Rows.{update_of, is_accepted, log_of, session_rows, IsSeenBy, IsLawful, AsksLogFirst, IsMerge}
 use Rattle.reg_model.specs.Merge.{AreAccounts}
-use Rattle.reg_model.specs.Accounts.{StandsInLog, ShareLog}
+use Rattle.reg_model.specs.Accounts.{StandsInLog, ShareLog, IsNextRow, with_row}
 
 -- a query has one list of hits
 abbrev pub ListTellsHits : Type 0
@@ -55,3 +55,23 @@ pub record MergeToLog (limits : Limits) (opening : Opening) (log : List Update) 
 abbrev pub AccountsMerge : Type 0
 AccountsMerge = (limits : Limits) (opening : Opening) (log : List Update) (accounts : List (List Row)) → ShareLog limits opening log accounts
     → MergeToLog limits opening log accounts
+
+-- accounts without rows share the empty log
+abbrev pub EmptyAccountsShare : Type 0
+EmptyAccountsShare = (limits : Limits) (opening : Opening) → ShareLog limits opening [] (replicate limits.callers [])
+
+-- accounts that share a log still do with one more row that changes nothing, at whatever place of the log it stands, where its session
+-- has seen its earlier rows
+abbrev pub AccountsTakeRow : Type 0
+AccountsTakeRow = (limits : Limits) (opening : Opening) (log : List Update) (accounts : List (List Row)) (account : List Row) (row : Row)
+    → ShareLog limits opening log accounts → IsNextRow accounts account row
+    → is_accepted row ≡ false → StandsInLog limits opening log row → All (λ earlier. IsSeenBy earlier row) account
+    → ShareLog limits opening log (with_row accounts row.session row)
+
+-- and with one more row whose update is the log's next
+abbrev pub AccountsTakeUpdate : Type 0
+AccountsTakeUpdate = (limits : Limits) (opening : Opening) (log : List Update) (accounts : List (List Row)) (account : List Row) (row : Row) (update : Update)
+    → ShareLog limits opening log accounts → IsNextRow accounts account row
+    → update_of row.call row.reply ≡ Some update → row.point ≡ opening.base + length log + 1 → length log < limits.log
+    → Replies limits opening log row.call row.reply
+    → ShareLog limits opening (log ++ update ∷ []) (with_row accounts row.session row)

@@ -21,6 +21,10 @@ pub record Registry : Type 0 where
   pub opening : Opening
   pub log : List Update
 
+-- that of a round after these updates
+abbrev pub registry_at : Limits → Opening → List Update → Registry
+registry_at limits opening log = record { limits = limits; opening = opening; log = log }
+
 -- The answer is that of the next row of a round with this log: its reply, its point, and the update that it makes.
 pub record Serves (old : Registry) (call : Call) (answer : Answer) (new : Registry) : Type 0 where
   pub reply : Replies old.limits old.opening old.log call answer.reply

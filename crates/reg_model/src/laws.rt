@@ -1,6 +1,6 @@
 //! Laws of the definitions. The functions do nothing: their contracts are the laws.
 
-ghost use Rattle.reg_model.specs.Laws.{ListTellsHits, LawfulRowsAreSeen, LawfulRowsStand, LoneRoundTellsRows, AccountsTellMerge, MergeKeepsAccounts, AccountsMerge};
+ghost use Rattle.reg_model.specs.Laws.{ListTellsHits, LawfulRowsAreSeen, LawfulRowsStand, LoneRoundTellsRows, AccountsTellMerge, MergeKeepsAccounts, AccountsMerge, EmptyAccountsShare, AccountsTakeRow, AccountsTakeUpdate};
 
 /// The hits of a query, and their order, are told by the live declarations, the unit and the radius.
 pub fn hits_are_told_by_their_list()
@@ -36,4 +36,20 @@ pub fn a_merge_keeps_each_account()
 /// Accounts of sessions that stand in one log merge into one lawful list of rows, which makes that log.
 pub fn accounts_in_one_log_merge()
     ensures { AccountsMerge }
+{}
+
+/// Sessions that have made no call share the empty log.
+pub fn empty_accounts_share_the_empty_log()
+    ensures { EmptyAccountsShare }
+{}
+
+/// Accounts in one log take a row that changes nothing, also one that stands before the log's end, where the row's session
+/// has seen its earlier rows.
+pub fn accounts_take_a_row_that_changes_nothing()
+    ensures { AccountsTakeRow }
+{}
+
+/// Accounts in one log take the row whose update is the log's next; the log grows by it.
+pub fn accounts_take_the_next_update()
+    ensures { AccountsTakeUpdate }
 {}

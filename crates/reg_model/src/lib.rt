@@ -9,6 +9,7 @@
 
 mod call;
 mod carried;
+mod desk;
 mod laws;
 mod lists;
 mod merging;
@@ -21,10 +22,13 @@ mod update;
 
 pub use call::Call;
 pub use carried::Carried;
+pub use desk::{CloseRefusal, CloseWhy, Closed, Desk};
 pub use laws::{
     a_lone_round_has_one_list_of_rows, a_merge_keeps_each_account, accounts_have_one_merge,
-    accounts_in_one_log_merge, each_call_comes_after_what_its_session_had_seen,
-    hits_are_told_by_their_list, lawful_rows_stand_in_their_log,
+    accounts_in_one_log_merge, accounts_take_a_row_that_changes_nothing,
+    accounts_take_the_next_update, each_call_comes_after_what_its_session_had_seen,
+    empty_accounts_share_the_empty_log, hits_are_told_by_their_list,
+    lawful_rows_stand_in_their_log,
 };
 pub use lists::{Accounts, Hits, Rows, Updates};
 pub use merging::{Order, Place, merge};

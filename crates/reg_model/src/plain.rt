@@ -64,7 +64,7 @@ impl Plain {
         ensures start { IfOk result (λ plain. plain ≡ record { limits = sizes.now; opening = carried.now; log = [] }) }
         ensures cause { MatchResult result
             (λ _. start_refusal sizes.now carried.now ≡ None)
-            (λ fault. (fault ≡ StartFault.NoMemory) ⊎ (start_refusal sizes.now carried.now ≡ Some fault)) }
+            (λ fault. (start_refusal sizes.now carried.now ≡ Some fault) ⊎ ((fault ≡ StartFault.NoMemory) × (start_refusal sizes.now carried.now ≡ None))) }
     {
         let list = carried.list();
         let base = carried.base();

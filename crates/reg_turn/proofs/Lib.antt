@@ -1,0 +1,8 @@
+pub mod Views
+pub mod Numbers
+pub mod ServedRows
+pub mod TurnSteps
+pub mod SeatSteps
+pub mod Dealing
+pub mod Calls
+pub mod Closing
