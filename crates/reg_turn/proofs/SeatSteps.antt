@@ -86,7 +86,7 @@ deals key id v rests s k at =
       owner = owner;
       holder = k.holder;
       wide = k.wide;
-      rests = record { home = (k.rests).home; out = (k.rests).out };
+      rests = k.rests;
       turn = λ busy. let h = k.turn busy in
           let apart = not_holder s k.holder id v h at rests in
           record {
@@ -135,7 +135,7 @@ seals key id v s k at =
       owner = k.owner;
       holder = k.holder;
       wide = k.wide;
-      rests = record { home = (k.rests).home; out = (k.rests).out };
+      rests = k.rests;
       turn = λ busy. let h = k.turn busy in record { view = h.view; at = at_longer s.views (sealing v ∷ []) k.holder h.view h.at; holds = h.holds; account = h.account };
       shared = k.shared;
       plain = k.plain;
@@ -177,7 +177,7 @@ gathers key id other v w quiet still s k at apart there =
       owner = owner;
       holder = k.holder;
       wide = k.wide;
-      rests = record { home = (k.rests).home; out = (k.rests).out };
+      rests = k.rests;
       turn = λ busy. let h = k.turn busy in
           let not_me = not_holder s k.holder id v h at quiet in
           let not_other = not_holder s k.holder other w h old still in

@@ -1,7 +1,7 @@
 -- The rule of the table: word 0 is not 0 while a seat has the turn, and slot 0 has the registry while nobody has it.
 use Rattle.std.specs.Prelude.{◌≡◌, ◌≢◌, ℕ, zero, suc, ◌+◌, ◌<◌, ◌≤◌, ◌==◌, if◌then◌else◌, List, [], ◌∷◌, length, map, slice_index, slice_get, All, true, false, Some, Option as StdOption}
 use Rattle.std.specs.List.{range_with_len}
-use mathlib.Core.Option.{none, some}
+use mathlib.Core.Option.{Option, none, some}
 use lib.ListN.{get_elem?}
 use Rattle.atomic_table.specs.Table.{State}
 use Rattle.reg_model.specs.declared.update.Update.{Update}
@@ -34,9 +34,9 @@ pub record Fits (key : Key) (log : List Update) (accounts : List (List Row)) (ow
   pub holding : v.holds ≡ true → (turn ≢ 0) × (holder ≡ id) × (v.log ≡ log)
 
 -- the registry is at home with this log, or is out
-pub record Rests (key : Key) (s : State Slot View) (log : List Update) : Type 0 where
-  pub home : slice_index s.words 0 ≡ 0 → get_elem? s.homes 0 ≡ some (some (Some (at_log key log)))
-  pub out : slice_index s.words 0 ≢ 0 → get_elem? s.homes 0 ≡ some none
+pub record Rests (key : Key) (words : List ℕ) (homes : List (Option Slot)) (log : List Update) : Type 0 where
+  pub home : slice_index words 0 ≡ 0 → get_elem? homes 0 ≡ some (some (Some (at_log key log)))
+  pub out : slice_index words 0 ≢ 0 → get_elem? homes 0 ≡ some none
 
 -- the seat that has the turn has an account
 pub record Holds (views : List View) (holder : ℕ) : Type 0 where
@@ -53,7 +53,7 @@ pub record Kept (key : Key) (s : State Slot View) : Type 0 where
   pub owner : ℕ → ℕ × ℕ
   pub holder : ℕ
   pub wide : length s.words ≡ 1
-  pub rests : Rests key s log
+  pub rests : Rests key s.words s.homes log
   pub turn : slice_index s.words 0 ≢ 0 → Holds s.views holder
   pub shared : ShareLog key.sizes key.carried log accounts
   pub plain : All (IsPlainRow key.sizes key.carried log) (all_rows accounts)

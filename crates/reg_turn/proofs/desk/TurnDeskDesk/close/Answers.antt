@@ -28,25 +28,27 @@ unreachable-requires c =
     c.close_with-closed.ensures.values.2 c.take-slot.ensures.value in
     c.in_default-slot.not-Some (at_log c.self.inside.table.shared.key out.log) out.is
 
-pub returns-clause-closed : goal.returns-clause-closed
-returns-clause-closed c =
+-- the round has ended, and its rows are the plain registry's
+ended_so : (c : goal.After-ended) → Closes c.args.self.limits c.args.self.opening c.ended.result (sealed_accounts c.into_badge-badge.result.views)
+    × All (IsPlainRow c.args.self.limits c.args.self.opening c.ended.result.log) (all_rows (sealed_accounts c.into_badge-badge.result.views))
+ended_so c =
     let key : Key = c.self.inside.table.shared.key in
-    let out = came_out c.self.inside.table.shared.key _ c.gather-seat.result.me _ (views c.args.passes.items) _ _ c.take-slot.result c.gather-seat.ensures.gathered c.split_seat.ensures.2
-    (refusal_of c.self.inside.callers c.self.inside.table.shared.key.sizes.callers _ c.args.passes.items c.missing.result c.missing.ensures c.deref.ensures.value c.self.invariant.2 ∙ ap (option_map Missing) c.in_default.is)
+    let passes = views c.args.passes.items in
+    let out = came_out key _ c.gather-seat.result.me _ passes _ _ c.take-slot.result c.gather-seat.ensures.gathered c.split_seat.ensures.2
+    (refusal_of c.self.inside.callers key.sizes.callers _ c.args.passes.items c.missing.result c.missing.ensures c.deref.ensures.value c.self.invariant.2 ∙ ap (option_map Missing) c.in_default.is)
     c.close_with-closed.ensures.values.2 c.take-slot.ensures.value in
-    let kept = sealed c.self.inside.table.shared.key c.gather-seat.result.me _ (views c.args.passes.items) _ c.gather-seat.ensures.gathered c.split_seat.ensures.4 c.into_badge-badge.ensures.2 in
-    subst (λ (d : TurnView). Closes d.limits d.opening c.ended.result (sealed_accounts c.into_badge-badge.result.views)) c.self.view_is
-    (closes key (views c.args.passes.items) c.take-slot.result c.in-Some-slot.plain c.ended.result _ out c.in-Some-slot.is c.ended.ensures.log c.ended.ensures.base c.ended.ensures.carried kept)
+    let kept = sealed key c.gather-seat.result.me _ passes _ c.gather-seat.ensures.gathered c.split_seat.ensures.4 c.into_badge-badge.ensures.2 in
+    subst (λ (d : TurnView). Closes d.limits d.opening c.ended.result (sealed_accounts c.into_badge-badge.result.views)
+    × All (IsPlainRow d.limits d.opening c.ended.result.log) (all_rows (sealed_accounts c.into_badge-badge.result.views))) c.self.view_is (
+      closes key passes c.take-slot.result c.in-Some-slot.plain c.ended.result _ out c.in-Some-slot.is c.ended.ensures.log c.ended.ensures.base c.ended.ensures.carried kept,
+      closes_plain key passes c.take-slot.result c.in-Some-slot.plain c.ended.result _ out c.in-Some-slot.is c.ended.ensures.log c.ended.ensures.base c.ended.ensures.carried kept,
+    )
+
+pub returns-clause-closed : goal.returns-clause-closed
+returns-clause-closed c = let both = ended_so c in both.0
 
 pub returns-clause-plain : goal.returns-clause-plain
-returns-clause-plain c =
-    let key : Key = c.self.inside.table.shared.key in
-    let out = came_out c.self.inside.table.shared.key _ c.gather-seat.result.me _ (views c.args.passes.items) _ _ c.take-slot.result c.gather-seat.ensures.gathered c.split_seat.ensures.2
-    (refusal_of c.self.inside.callers c.self.inside.table.shared.key.sizes.callers _ c.args.passes.items c.missing.result c.missing.ensures c.deref.ensures.value c.self.invariant.2 ∙ ap (option_map Missing) c.in_default.is)
-    c.close_with-closed.ensures.values.2 c.take-slot.ensures.value in
-    let kept = sealed c.self.inside.table.shared.key c.gather-seat.result.me _ (views c.args.passes.items) _ c.gather-seat.ensures.gathered c.split_seat.ensures.4 c.into_badge-badge.ensures.2 in
-    subst (λ (d : TurnView). All (IsPlainRow d.limits d.opening c.ended.result.log) (all_rows (sealed_accounts c.into_badge-badge.result.views))) c.self.view_is
-    (closes_plain key (views c.args.passes.items) c.take-slot.result c.in-Some-slot.plain c.ended.result _ out c.in-Some-slot.is c.ended.ensures.log c.ended.ensures.base c.ended.ensures.carried kept)
+returns-clause-plain c = let both = ended_so c in both.1
 
 pub returns-clause-seal : goal.returns-clause-seal
 returns-clause-seal c =
