@@ -1,5 +1,5 @@
 -- A desk, which many callers use at once: what contracts see of its passes, and what each call does.
-use Rattle.std.specs.Prelude.{◌≡◌, ℕ, ◌<◌, ◌≤◌, ◌==◌, true, not, if◌then◌else◌, List, [], ◌∷◌, ◌++◌, length, map, find, Option, None}
+use Rattle.std.specs.Prelude.{◌≡◌, ℕ, ◌<◌, ◌≤◌, ◌==◌, true, not, if◌then◌else◌, List, [], ◌∷◌, ◌++◌, length, map, find, Option, None, All, AllPairs}
 use Rattle.std.specs.List.{list_any, range_with_len}
 use Rattle.std.specs.Option.{option_map}
 use Rattle.reg_model.specs.declared.call.Call.{Call}
@@ -12,7 +12,8 @@ use Rattle.reg_model.specs.declared.update.Update.{Update}
 use Rattle.reg_model.specs.Limits.{Limits}
 use Rattle.reg_model.specs.Opening.{Opening}
 use Rattle.reg_model.specs.Live.{opening_after}
-use Rattle.reg_model.specs.Rows.{is_accepted}
+use Rattle.reg_model.specs.Merge.{AreAccounts}
+use Rattle.reg_model.specs.Rows.{is_accepted, IsSeenBy}
 use Rattle.reg_model.specs.Registry.{Registry, registry_at, Serves}
 use Rattle.reg_model.specs.Laws.{MergeToLog}
 
@@ -87,8 +88,11 @@ accounts_of callers passes = map (account_of passes) (range_with_len 0 callers)
 abbrev pub close_refusal : ℕ → List PassView → Option CloseWhy
 close_refusal callers passes = option_map Missing (find (λ number. not (list_any (λ pass. pass.number == number) passes)) (range_with_len 0 callers))
 
--- The round has ended: the accounts have a merge that is lawful and makes the log, and the live declarations are carried on.
+-- The round has ended: each row stands at the place of its session and number, and after all that its session had seen; the accounts
+-- have a merge that is lawful and makes the log, and the live declarations are carried on.
 pub record Closes (limits : Limits) (opening : Opening) (closed : Closed) (accounts : List (List Row)) : Type 0 where
   pub base : closed.base ≡ opening.base
+  pub numbered : AreAccounts accounts
+  pub seen : All (AllPairs IsSeenBy) accounts
   pub merge : MergeToLog limits opening closed.log accounts
   pub carried : closed.carried ≡ opening_after opening closed.log

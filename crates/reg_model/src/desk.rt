@@ -51,7 +51,7 @@ pub trait Desk: Sized + Sync + Drop {
     type Pass: Send + Drop;
 
     /// What stays of a round that has ended. Nothing is read from it; contracts see the accounts.
-    type Seal: Drop;
+    type Seal: Send + Drop;
 
     ghost limits: { Self → Limits };
 

@@ -1,6 +1,6 @@
 -- With the accounts of all sessions in one view, the registry is at home, and they stand in its log.
 use Rattle.std.proofs.Common.{◌≡◌, ℕ, zero, suc, ◌+◌, ◌<◌, Bool, true, false, cond, not, List, [], ◌∷◌, map, length, get_or, Option, None, Some, refl, sym, ◌∙◌, ap, subst, tests, arith}
-use Rattle.std.specs.Prelude.{slice_get, find, All, ◌==◌, ◌||◌, if◌then◌else◌}
+use Rattle.std.specs.Prelude.{slice_get, find, All, AllPairs, ◌==◌, ◌||◌, if◌then◌else◌}
 use Rattle.std.specs.List.{list_any, range_with_len}
 use Rattle.std.specs.Option.{option_map}
 use Rattle.std.proofs.lemmas.Option.{same_Some, slice_get_within}
@@ -12,7 +12,8 @@ use Rattle.atomic_table.specs.Table.{State, Final, Seen}
 use Rattle.reg_model.specs.declared.desk.CloseWhy.TheVariants.{Missing}
 use Rattle.reg_model.specs.declared.reply.Row.{Row}
 use Rattle.reg_model.specs.declared.update.Update.{Update}
-use Rattle.reg_model.specs.Rows.{all_rows}
+use Rattle.reg_model.specs.Merge.{AreAccounts}
+use Rattle.reg_model.specs.Rows.{all_rows, IsSeenBy}
 use Rattle.reg_model.specs.Accounts.{ShareLog}
 use Rattle.reg_model.specs.declared.desk.Closed.{Closed}
 use Rattle.reg_model.specs.Live.{opening_after}
@@ -203,6 +204,8 @@ module _ (key : Key) (passes : List PassView) (slot : Slot) (plain : Registry) (
   pub closes : Closes key.sizes key.carried closed accounts
   closes = record {
     base = base ∙ ap (λ (r : Registry). r.opening.base) plain_is;
+    numbered = subst AreAccounts (sym kept) ended.shared.numbered;
+    seen = subst (All (AllPairs IsSeenBy)) (sym kept) ended.shared.seen;
     merge = subst (λ (z : List Update × List (List Row)). MergeToLog key.sizes key.carried z.0 z.1) (λ i. (sym log_is i, sym kept i))
         (accounts_merge key.sizes key.carried ended.log (accounts_of key.sizes.callers passes) ended.shared);
     carried = carried ∙ ap (λ (r : Registry). opening_after r.opening r.log) plain_is ∙ ap (opening_after key.carried) (sym log_is);

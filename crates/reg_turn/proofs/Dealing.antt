@@ -3,6 +3,7 @@ use Rattle.std.proofs.Common.{◌≡◌, ℕ, zero, suc, ◌+◌, ◌-◌, ◌<�
 use Rattle.std.specs.Prelude.{All}
 use Rattle.std.specs.List.{range_with_len}
 use Rattle.std.proofs.lemmas.List.{map-append}
+use Rattle.std.proofs.lemmas.List.FromFn.{map-range_with_len_more}
 use Rattle.std.proofs.lemmas.List.Elements.{All-push}
 use Rattle.reg_model.specs.Desks.{new_pass, new_passes}
 use Rattle.reg_turn.specs.declared.view.Account.{Account}
@@ -10,7 +11,6 @@ use Rattle.reg_turn.specs.declared.view.Key.{Key}
 use Rattle.reg_turn.specs.Turns.{TurnView, TurnPassView, IsPassOf}
 use Rattle.reg_turn.specs.inner.OneTurn.{fresh}
 use Rattle.reg_turn.specs.inner.Steps.{Sat, IsIdle, pass_of, head_part, tail_part, account_in}
-use Rattle.reg_turn.proofs.Numbers.{range_push}
 
 -- ---- dealing
 
@@ -41,8 +41,7 @@ pub one_more_pass : (base n : ℕ) (passes new : List TurnPassView) (pass : Turn
     → map (λ (p : TurnPassView). p.pass) new ≡ new_passes base (n + 1)
 one_more_pass base n passes new pass are is fresh_pass =
     ap (map (λ (p : TurnPassView). p.pass)) is ∙ map-append (λ (p : TurnPassView). p.pass) passes (pass ∷ []) ∙ (λ i. are i ++ fresh_pass i ∷ [])
-    ∙ sym (map-append (new_pass base) (range_with_len 0 n) ((0 + n) ∷ []) ∙ ap (λ k. new_passes base n ++ new_pass base k ∷ []) (let same : 0 + n ≡ n = omega arith in same))
-    ∙ ap (map (new_pass base)) (sym (range_push 0 n))
+    ∙ sym (map-range_with_len_more (new_pass base) 0 n n (omega arith))
 
 pub one_more_of : (desk : TurnView) (passes new : List TurnPassView) (pass : TurnPassView) → All (IsPassOf desk) passes → new ≡ passes ++ pass ∷ [] → pass.desk ≡ desk → All (IsPassOf desk) new
 one_more_of desk passes new pass all is own = subst (All (IsPassOf desk)) (sym is) (All-push (IsPassOf desk) passes pass all own)

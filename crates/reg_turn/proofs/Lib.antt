@@ -1,5 +1,5 @@
 pub mod Views
-pub mod Numbers
+pub mod FirstNumber
 pub mod ServedRows
 pub mod TurnSteps
 pub mod SeatSteps

@@ -1,14 +1,7 @@
--- Numbers from 0 on.
+-- The first number that passes a test.
 use Rattle.std.proofs.Common.{◌≡◌, ℕ, zero, suc, ◌+◌, ◌-◌, ◌<◌, Bool, true, false, cond, [], ◌∷◌, ◌++◌, Some, ◌∙◌, ap, arith}
 use Rattle.std.specs.Prelude.{find}
 use Rattle.std.specs.List.{range_with_len}
-
-range_next : (a n : ℕ) → range_with_len a (suc n) ≡ range_with_len a n ++ (a + n) ∷ []
-range_next a zero = ap (λ k. k ∷ []) (let same : a ≡ a + 0 = omega arith in same)
-range_next a (suc n) = ap (λ ks. a ∷ ks) (range_next (a + 1) n ∙ ap (λ k. range_with_len (a + 1) n ++ k ∷ []) (let same : a + 1 + n ≡ a + suc n = omega arith in same))
-
-pub range_push : (a n : ℕ) → range_with_len a (n + 1) ≡ range_with_len a n ++ (a + n) ∷ []
-range_push a n = ap (range_with_len a) (let same : n + 1 ≡ suc n = omega arith in same) ∙ range_next a n
 
 -- the first number that passes a test, looked for from a number on
 looked : (test : ℕ → Bool) (a m : ℕ) → a < m → find test (range_with_len a (m - a)) ≡ cond (test a) (Some a) (find test (range_with_len (a + 1) (m - (a + 1))))
