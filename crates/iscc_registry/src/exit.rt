@@ -4,9 +4,11 @@ ghost use Rattle.reg_model.specs.Runs.{RoundRows};
 ghost use Rattle.reg_session.specs.Outside.{outside};
 ghost use Rattle.reg_top.specs.Outcomes.{IsOutcome};
 
-use reg_top::{Args, Shelf, Sink, top};
+use reg_top::{Args, NoGate, Shelf, Sink, no_seals, top};
 use std::alloc::Global;
 use std::process::ExitCode;
+use std::sync::Wait;
+use std::thread::Threads;
 
 /// Why a command line gives no words.
 #[derive(Clone, Copy, Debug, PartialEq, Eq)]
@@ -20,8 +22,9 @@ pub enum NoWords {
 // The status where there is no memory for the words; nothing is written then.
 const MEMORY: u8 = 6;
 
-/// Does what the words say, and ends with the status that `top` answers.
-pub(crate) fn exit_with<F: Shelf, K: Sink>(
+/// Does what the words say, with no gate, and ends with the status that `top` answers.
+pub(crate) fn exit_with<F: Shelf, K: Sink, R: Threads + Wait + Sync>(
+    rt: &R,
     alloc: Global,
     words: Result<Args, NoWords>,
     shelf: &mut F,
@@ -37,10 +40,11 @@ pub(crate) fn exit_with<F: Shelf, K: Sink>(
         (outside (F.files shelf.new) (F.fetch_faults shelf.new) (K.taken sink.new) (K.faults sink.new)) served (exit_status result) }
     ensures no_memory { words ≡ Err NoWords.NoMemory → (exit_status result ≡ 6) × (shelf.new ≡ shelf.old) × (sink.new ≡ sink.old) }
 {
-    let status = match words {
-        Ok(words) => top(alloc, &words, shelf, sink),
-        Err(NoWords::NoText) => top(alloc, &Args::new(alloc), shelf, sink),
-        Err(NoWords::NoMemory) => MEMORY,
+    let words = match words {
+        Ok(words) => words,
+        Err(NoWords::NoText) => Args::new(alloc),
+        Err(NoWords::NoMemory) => return ExitCode::from(MEMORY),
     };
+    let status = top(rt, alloc, &words, shelf, sink, &NoGate, &mut no_seals());
     ExitCode::from(status)
 }

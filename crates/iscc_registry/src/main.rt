@@ -24,7 +24,7 @@ mod tests;
 fn main(rt: HostRuntime) -> ExitCode {
     let mut shelf = FileShelf::new(&rt);
     let mut sink = OutSink::new(&rt);
-    exit_with(rt.alloc(), words(&rt), &mut shelf, &mut sink)
+    exit_with(&rt, rt.alloc(), words(&rt), &mut shelf, &mut sink)
 }
 
 // The words after the program's name.

@@ -1,15 +1,30 @@
 use super::*;
-use reg_top::{ListSink, top};
+use reg_top::{ListSink, NoGate, no_seals, top};
+use std::rt::Files;
+use std::sync::Wait;
 use std::test::Fail;
+use std::thread::Threads;
 
 // The status of a run of the system's file with this name, and what the sink has taken.
-fn run_file(rt: &HostRuntime, name: &str) -> Result<(u8, ListSink), Fail> {
+fn run_file<R: Files + Threads + Wait + Sync + AllocGlobal>(
+    rt: &R,
+    name: &str,
+) -> Result<(u8, ListSink), Fail> {
     let mut words = Args::new(rt.alloc());
     words.push("run")?;
     words.push(name)?;
     let mut shelf = FileShelf::new(rt);
     let mut sink = ListSink::new(Vec::with_capacity(rt.alloc(), 256)?, 256, 256);
-    let status = top(rt.alloc(), &words, &mut shelf, &mut sink);
+    let mut seals = no_seals();
+    let status = top(
+        rt,
+        rt.alloc(),
+        &words,
+        &mut shelf,
+        &mut sink,
+        &NoGate,
+        &mut seals,
+    );
     Ok((status, sink))
 }
 

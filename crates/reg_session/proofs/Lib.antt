@@ -1,0 +1,2 @@
+pub mod SessionSteps
+pub mod RoundSteps

@@ -3,3 +3,5 @@ pub mod Files
 pub mod Shelves
 pub mod Sinks
 pub mod Outside
+pub mod Sessions
+pub mod inner

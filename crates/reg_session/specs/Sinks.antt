@@ -1,5 +1,5 @@
 -- A sink in memory.
-use Rattle.std.specs.Prelude.{◌≡◌, ℕ, ◌-◌, min, List, length}
+use Rattle.std.specs.Prelude.{ℕ, ◌-◌, min, List, length}
 
 -- the bytes that it has taken, how many it takes at most in a call and in all, for how many it has room, and how often it failed
 pub record ByteList : Type 0 where

@@ -1,11 +1,10 @@
 -- The texts that are composed: read one by one, each of one unit, or refused.
-use Rattle.std.proofs.Common.{◌≡◌, ℕ, suc, ◌+◌, ◌≤◌, List, [], ◌∷◌, ◌++◌, length, take, drop, Option, Some, None, refl, sym, ◌∙◌, ap, ap₂, subst, arith, add-one, drop-cons}
-use Rattle.std.specs.Prelude.{All, slice_get, is_ok, Ok, Err}
+use Rattle.std.proofs.Common.{◌≡◌, ℕ, suc, ◌+◌, ◌≤◌, List, [], ◌∷◌, ◌++◌, length, take, drop, Option, Some, None, refl, sym, ◌∙◌, ap, ap₂, subst, arith, drop-cons}
+use Rattle.std.specs.Prelude.{slice_get, is_ok, Ok, Err}
 use Rattle.std.specs.List.{AllZip}
 use Rattle.std.proofs.lemmas.Bool.{true≢false}
-use Rattle.std.proofs.lemmas.Option.{none-some, slice_get_within, get_or_from_slice_get}
-use Rattle.std.proofs.lemmas.List.{take_all, take_more, take-append-drop, length-take-le}
-use Rattle.std.proofs.lemmas.List.Elements.{All-more}
+use Rattle.std.proofs.lemmas.Option.{slice_get_within, get_or_from_slice_get}
+use Rattle.std.proofs.lemmas.List.{take-append-drop, length-take-le}
 use Rattle.iscc_code.specs.declared.iscc.Iscc.{Iscc}
 use Rattle.iscc_code.specs.declared.iscc.Iscc.TheVariants as codes
 use Rattle.iscc_code.specs.declared.composing.ComposeFault.{ComposeFault}
@@ -17,41 +16,17 @@ use Rattle.iscc_text.proofs.OneText.{one_reading, one_iscc}
 use Rattle.reg_top.specs.declared.refusal.WordFault.{WordFault}
 use Rattle.reg_top.specs.declared.refusal.WordFault.TheVariants as word_faults
 use Rattle.reg_top.specs.commands.Compose.{IsTextOf, HasWordFault, HasRefusedText}
-use Rattle.reg_top.specs.Words.{IsValue}
-
--- ---- places behind the first word
-
-pub behind_first : (words : List (List ℕ)) (k : ℕ) (text : List ℕ) → slice_get words (k + 1) ≡ Some text → slice_get (drop 1 words) k ≡ Some text
-behind_first [] k text at = absurd (none-some text at)
-behind_first (word ∷ words) k text at = rw add-one at at
-
--- ---- texts that are values
-
-pub values_more : (texts : List (List ℕ)) (k : ℕ) (text : List ℕ) → slice_get texts k ≡ Some text → All IsValue (take k texts) → IsValue text → All IsValue (take (k + 1) texts)
-values_more texts k text at before is =
-    All-more IsValue texts k text (slice_get_within texts k text at) before (subst IsValue (sym (get_or_from_slice_get texts k text text at)) is)
-
-pub values_all : (texts : List (List ℕ)) (k : ℕ) → length texts ≤ k → All IsValue (take k texts) → All IsValue texts
-values_all texts k long are = subst (λ ts. All IsValue ts) (take_all k texts long) are
+use Rattle.reg_top.proofs.BehindFirst.{zip_more, zip_all}
 
 -- ---- texts that are read
-
-zip_push : (texts : List (List ℕ)) (units : List UnitParts) (text : List ℕ) (unit : UnitParts) → AllZip IsTextOf texts units → IsTextOf text unit → AllZip IsTextOf (texts ++ text ∷ []) (units ++ unit ∷ [])
-zip_push [] [] text unit zip is = (is, tt)
-zip_push [] (u ∷ units) text unit zip is = absurd zip
-zip_push (t ∷ texts) [] text unit zip is = absurd zip
-zip_push (t ∷ texts) (u ∷ units) text unit zip is = (zip.0, zip_push texts units text unit zip.1 is)
-
-front_more : (texts : List (List ℕ)) (k : ℕ) (text : List ℕ) → slice_get texts k ≡ Some text → take (k + 1) texts ≡ take k texts ++ text ∷ []
-front_more texts k text at = take_more texts k text (slice_get_within texts k text at) ∙ ap (λ t. take k texts ++ t ∷ []) (get_or_from_slice_get texts k text text at)
 
 pub read_more : (texts : List (List ℕ)) (k : ℕ) (text : List ℕ) (units : List UnitParts) (unit : UnitParts) → slice_get texts k ≡ Some text
     → AllZip IsTextOf (take k texts) units → IsTextOf text unit → AllZip IsTextOf (take (k + 1) texts) (units ++ unit ∷ [])
 read_more texts k text units unit at read is =
-    subst (λ ts. AllZip IsTextOf ts (units ++ unit ∷ [])) (sym (front_more texts k text at)) (zip_push (take k texts) units text unit read is)
+    zip_more IsTextOf texts k text units unit at read is
 
 pub read_all : (texts : List (List ℕ)) (k : ℕ) (units : List UnitParts) → length texts ≤ k → AllZip IsTextOf (take k texts) units → AllZip IsTextOf texts units
-read_all texts k units long read = subst (λ ts. AllZip IsTextOf ts units) (take_all k texts long) read
+read_all texts k units long read = zip_all IsTextOf texts k units long read
 
 pub refused_at : (texts : List (List ℕ)) (k : ℕ) (text : List ℕ) (units : List UnitParts) (why : WordFault) → slice_get texts k ≡ Some text
     → AllZip IsTextOf (take k texts) units → HasWordFault text why → HasRefusedText texts k why

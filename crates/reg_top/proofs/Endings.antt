@@ -318,6 +318,17 @@ not_words (endings.Refused refusal) is = omega (arith, is_ten refusal, is)
 not_words endings.Unwritten is = omega (arith, is)
 not_words endings.NoMemory is = omega (arith, is)
 
+-- status 0 is that of a command that is done
+pub done_at_zero : (ending : Ending) → ending_number ending ≡ 0 → ending ≡ endings.Done
+done_at_zero endings.Done is = refl
+done_at_zero (endings.Unread faults.Missing) is = absurd (omega (arith, is))
+done_at_zero (endings.Unread faults.Failed) is = absurd (omega (arith, is))
+done_at_zero (endings.Unread faults.TooLong) is = absurd (omega (arith, is))
+done_at_zero (endings.Unread faults.NoMemory) is = absurd (omega (arith, is))
+done_at_zero (endings.Refused refusal) is = absurd (omega (arith, is_ten refusal, is))
+done_at_zero endings.Unwritten is = absurd (omega (arith, is))
+done_at_zero endings.NoMemory is = absurd (omega (arith, is))
+
 -- of words that are of a form
 pub command_outcome : (words : List (List ℕ)) (command : Command) (before after : Outside) (served : List RoundRows) (ending : Ending) → IsForm words command
     → after.shelf.files ≡ before.shelf.files → Ends command before after served ending → IsOutcome words before after served (ending_number ending)

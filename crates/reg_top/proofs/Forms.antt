@@ -6,7 +6,7 @@ use Rattle.std.proofs.lemmas.Option.{same_Some, none-some}
 use Rattle.reg_top.specs.declared.words.SideWord.{SideWord}
 use Rattle.reg_top.specs.declared.words.SideWord.TheVariants as side
 use Rattle.reg_top.specs.Fetches.{Command}
-use Rattle.reg_top.specs.Words.{HasOneFile, HasOneValue, HasTexts, IsValue, IsForm, IsSideCommand, side_text, plan_of}
+use Rattle.reg_top.specs.Words.{HasFiles, HasOneValue, HasTexts, IsValue, IsForm, IsSideCommand, side_text, plan_of}
 use Rattle.reg_top.specs.Fetches.Command.{Run, Explain, Compose, Instance, Check}
 use Rattle.reg_top.specs.Outcomes.{HasNoForm}
 
@@ -33,7 +33,7 @@ second (x ∷ y ∷ words) = y
 -- the command that words which begin with this word may be a form of
 abbrev named_by : List ℕ → List (List ℕ) → Command
 named_by word words =
-    cond (bytes_eq word (codes "run")) (Run (plan_of (second words)))
+    cond (bytes_eq word (codes "run")) (Run (plan_of (drop 1 words)))
     (cond (bytes_eq word (codes "explain")) (Explain (second words))
     (cond (bytes_eq word (codes "compose")) (Compose (drop 1 words))
     (cond (bytes_eq word (codes "instance")) (Instance (second words)) (Check (second words)))))
@@ -54,14 +54,14 @@ one_form words a b h k = form_named words a h ∙ sym (form_named words b k)
 
 -- ---- words of no form, by their first word
 
-pub no_run : (words : List (List ℕ)) → ((name : List ℕ) → HasOneFile words name → ⊥) → (IsSideCommand words → ⊥) → HasNoForm words
-no_run words none other (Run plan) form = none form.0 form.1
+pub no_run : (words : List (List ℕ)) → (HasFiles words (drop 1 words) → ⊥) → (IsSideCommand words → ⊥) → HasNoForm words
+no_run words none other (Run plan) form = let is = form.1 in none (subst (HasFiles words) (sym (ap (drop 1) is.words_are)) is)
 no_run words none other (Explain text) form = other (side.Explain, first_word words (Explain text) form)
 no_run words none other (Compose texts) form = other (side.Compose, first_word words (Compose texts) form)
 no_run words none other (Instance name) form = other (side.Instance, first_word words (Instance name) form)
 no_run words none other (Check name) form = other (side.Check, first_word words (Check name) form)
 
-begins_with : (words : List (List ℕ)) (word : List ℕ) → slice_get words 0 ≡ Some word → words ≡ word ∷ drop 1 words
+pub begins_with : (words : List (List ℕ)) (word : List ℕ) → slice_get words 0 ≡ Some word → words ≡ word ∷ drop 1 words
 begins_with [] word begins = absurd (none-some word begins)
 begins_with (first ∷ words) word begins = ap (λ w. w ∷ words) (same_Some first word begins)
 

@@ -1,9 +1,11 @@
 pub mod WorkedOutput
-pub mod ServeSteps
 pub mod RoundMarks
 pub mod Writing
 pub mod OneRound
+pub mod AccountTexts
 pub mod Forms
+pub mod BehindFirst
+pub mod SessionFiles
 pub mod Endings
 pub mod Compositions
 pub mod SavedLines

@@ -1,6 +1,7 @@
 -- The words of a command line.
-use Rattle.std.specs.Prelude.{◌⊎◌, ◌≡◌, ◌≢◌, ℕ, ◌<◌, List, [], ◌∷◌, ◌++◌, length, codes, slice_get, All, Some}
+use Rattle.std.specs.Prelude.{◌⊎◌, ◌≡◌, ◌≢◌, ℕ, ◌<◌, ◌≤◌, List, [], ◌∷◌, ◌++◌, length, codes, slice_get, All, Some}
 use Rattle.reg_requests.specs.Numbers.{IsNumber}
+use Rattle.reg_model.specs.declared.sizes.TheConstants.{CALLERS_MOST}
 use Rattle.reg_model.specs.Limits.{usual_limits}
 use Rattle.reg_top.specs.Fetches.{RoundPlan, Command}
 use Rattle.reg_top.specs.Fetches.Command.{Run, Explain, Compose, Instance, Check}
@@ -20,11 +21,17 @@ AreSizes text = (entries log : List ℕ) × IsNumber entries × IsNumber log × 
 abbrev pub IsRoundMark : List ℕ → Type 0
 IsRoundMark word = (sizes : List ℕ) × (word ≡ codes "/" ++ sizes) × ((sizes ≡ []) ⊎ AreSizes sizes)
 
--- the words are `run` and the name of a file
-pub record HasOneFile (words : List (List ℕ)) (name : List ℕ) : Type 0 where
-  pub words_are : words ≡ codes "run" ∷ name ∷ []
-  pub value : IsValue name
-  pub no_mark : IsRoundMark name → ⊥
+-- a word that names a file
+pub record IsFileName (word : List ℕ) : Type 0 where
+  pub value : IsValue word
+  pub no_mark : IsRoundMark word → ⊥
+
+-- the words are `run` and the names of files, one to sixteen (`CALLERS_MOST`)
+pub record HasFiles (words names : List (List ℕ)) : Type 0 where
+  pub words_are : words ≡ codes "run" ∷ names
+  pub some : 1 ≤ length names
+  pub few : length names ≤ CALLERS_MOST
+  pub are_names : All IsFileName names
 
 -- the words are a command's first word and one value
 pub record HasOneValue (words : List (List ℕ)) (first value : List ℕ) : Type 0 where
@@ -37,13 +44,13 @@ pub record HasTexts (words texts : List (List ℕ)) : Type 0 where
   pub some : 0 < length texts
   pub are_values : All IsValue texts
 
--- one round, with one file
-abbrev pub plan_of : List ℕ → List RoundPlan
-plan_of name = record { limits = usual_limits 1; names = name ∷ [] } ∷ []
+-- one round, with a session for each file
+abbrev pub plan_of : List (List ℕ) → List RoundPlan
+plan_of names = record { limits = usual_limits (length names); names = names } ∷ []
 
 -- the words are of the form of a command
 abbrev pub IsForm : List (List ℕ) → Command → Type 0
-IsForm words (Run plan) = (name : List ℕ) × HasOneFile words name × (plan ≡ plan_of name)
+IsForm words (Run plan) = (names : List (List ℕ)) × HasFiles words names × (plan ≡ plan_of names)
 IsForm words (Explain text) = HasOneValue words (codes "explain") text
 IsForm words (Compose texts) = HasTexts words texts
 IsForm words (Instance name) = HasOneValue words (codes "instance") name

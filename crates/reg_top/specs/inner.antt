@@ -1,3 +1,3 @@
 -- What only proofs and private contracts use.
 pub mod Endings
-pub mod LoneRounds
+pub mod OneRound

@@ -17,7 +17,7 @@ mod laws;
 mod refusal;
 mod replies;
 mod saved_history;
-mod serve;
+mod served;
 mod side_commands;
 mod top_call;
 mod words;
@@ -25,7 +25,10 @@ mod write;
 
 pub use args::Args;
 pub use laws::words_of_lone_sessions_have_one_output;
-pub use reg_session::{Failed, FetchFault, ListShelf, ListSink, Shelf, Sink, SureShelf, SureSink};
+pub use reg_session::{
+    Failed, FetchFault, Gate, ListShelf, ListSink, NoGate, Seals, Shelf, Sink, SureShelf, SureSink,
+};
+pub use served::{Served, no_seals};
 pub use side_commands::side;
 pub use top_call::top;
 

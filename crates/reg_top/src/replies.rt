@@ -1,16 +1,40 @@
-ghost use Rattle.std.specs.Prelude.{◌≡◌, ◌∷◌, ◌++◌, [], List, OnOk, IfOk, codes};
+ghost use Rattle.std.specs.Prelude.{◌≡◌, ◌∷◌, ◌++◌, [], List, OnOk, IfOk, codes, length};
 ghost use Rattle.std.specs.Fmt.{decimal};
 ghost use Rattle.reg_requests.specs.Lines.{line, spaced};
 ghost use Rattle.reg_requests.specs.declared.items.Item.{Item as AnItem};
 ghost use Rattle.reg_top.specs.commands.Run.{item_lines};
+ghost use Rattle.reg_top.specs.inner.OneRound.{account_texts};
 
 use iscc_header::NoMemory;
-use reg_model::{Call, Row};
-use reg_requests::{Item, kind_of, print_bad, print_reply, print_word, print_word_number};
+use reg_model::{Call, Row, Rows};
+use reg_requests::{
+    Item, Requests, kind_of, print_bad, print_reply, print_word, print_word_number,
+};
 
-/// Appends the replies to a session: the line that names it, and a line for each item of its file. The rows are the
-/// session's, in order.
-pub(crate) fn print_replies(
+/// Appends the replies of the first round to its sessions, of which each has its items and its account.
+pub(crate) fn print_accounts(
+    lists: &[Requests],
+    accounts: &[Rows],
+    out: &mut Vec<u8>,
+) -> Result<(), NoMemory>
+    requires { length accounts.now ≡ length lists.now }
+    ensures { OnOk result (out.new.items ≡ out.old.items ++ account_texts 0 0 lists.now accounts.now) }
+{
+    for session in 0..lists.len() {
+        print_replies(
+            0,
+            session as u64,
+            lists[session].as_slice(),
+            accounts[session].as_slice(),
+            out,
+        )?;
+    }
+    Ok(())
+}
+
+// Appends the replies to a session: the line that names it, and a line for each item of its file. The rows are the
+// session's, in order.
+fn print_replies(
     round: u64,
     session: u64,
     items: &[Item],

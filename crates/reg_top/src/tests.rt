@@ -1,12 +1,26 @@
 use super::*;
 use std::alloc::{AllocError, Global};
+use std::sync::Wait;
 use std::test::Fail;
+use std::thread::Threads;
 
 mod lines;
+mod sessions;
 mod side;
 
 // Room for the output of a small run.
 const ROOM: usize = 4096;
+
+// What `top` answers, with no gate.
+fn top_of<F: Shelf, K: Sink, R: Threads + Wait + Sync + AllocGlobal>(
+    rt: &R,
+    words: &Args,
+    shelf: &mut F,
+    sink: &mut K,
+) -> u8 {
+    let mut seals = no_seals();
+    top(rt, rt.alloc(), words, shelf, sink, &NoGate, &mut seals)
+}
 
 // The words of a run of one file.
 fn run_words(alloc: Global, name: &str) -> Result<Args, Fail> {
@@ -34,10 +48,14 @@ fn sink_of(alloc: Global, room: usize, stop: usize) -> Result<ListSink, AllocErr
 }
 
 // The status of a run of a.txt with this text, and what the sink has taken.
-fn run_text(alloc: Global, text: &str) -> Result<(u8, String), Fail> {
+fn run_text<R: Threads + Wait + Sync + AllocGlobal>(
+    rt: &R,
+    text: &str,
+) -> Result<(u8, String), Fail> {
+    let alloc = rt.alloc();
     let mut shelf = shelf_of(alloc, text.as_bytes(), &[])?;
     let mut sink = sink_of(alloc, ROOM, usize::MAX)?;
-    let status = top(alloc, &run_words(alloc, "a.txt")?, &mut shelf, &mut sink);
+    let status = top_of(rt, &run_words(alloc, "a.txt")?, &mut shelf, &mut sink);
     Ok((status, taken_text(alloc, &sink)?))
 }
 
@@ -66,7 +84,7 @@ round 0 base 0 entries 4096 log 65536 callers 1
 0.2 @2 near ISCC:AAAQAAAAAAAAAAAA 1 = hits 2 0,0,ISCC:AAAQAAAAAAAAAAAA 1,1,ISCC:AAAQAAAAAAAAAAAB
 end 3 live 2
 ";
-    let (status, output) = run_text(rt.alloc(), NEAR_TWO)?;
+    let (status, output) = run_text(&rt, NEAR_TWO)?;
     assert_eq!(rt; status, 0);
     assert_eq!(rt; output.as_str(), want);
     Ok(())
@@ -85,7 +103,7 @@ fn a_body_out_of_range_or_of_another_kind_is_no_hit(rt: HostRuntime) -> Result<(
         ),
     ];
     for (text, replies) in cases {
-        let (status, output) = run_text(rt.alloc(), text)?;
+        let (status, output) = run_text(&rt, text)?;
         assert_eq!(rt; status, 0);
         assert!(rt; output.as_str().starts_with(replies), "{output}");
     }
@@ -97,14 +115,14 @@ fn an_empty_line_is_skipped_and_a_last_line_needs_no_line_feed(
     rt: HostRuntime,
 ) -> Result<(), Fail> {
     let text = "\n\ndeclare ISCC:AAAQAAAAAAAAAAAA\n\nnear ISCC:AAAQAAAAAAAAAAAA 15";
-    let (status, output) = run_text(rt.alloc(), text)?;
+    let (status, output) = run_text(&rt, text)?;
     assert_eq!(rt; status, 0);
     assert!(rt;
         output.as_str().starts_with(
             "replies 0 0\nid 0\nhits 1 0,0,ISCC:AAAQAAAAAAAAAAAA\niscc-history 1\n"
         )
     );
-    let (_, nothing) = run_text(rt.alloc(), "")?;
+    let (_, nothing) = run_text(&rt, "")?;
     assert_eq!(rt;
         nothing.as_str(),
         "replies 0 0\niscc-history 1\nround 0 base 0 entries 4096 log 65536 callers 1\nend 0 live 0\n"
@@ -124,7 +142,7 @@ fn the_last_entry_is_taken_and_one_more_declaration_is_refused(
     let mut shelf = shelf_of(alloc, text.as_slice(), &[])?;
     let mut sink = ListSink::new(Vec::with_capacity(alloc, 1 << 20)?, 65536, usize::MAX);
     assert_eq!(rt;
-        top(alloc, &run_words(alloc, "a.txt")?, &mut shelf, &mut sink),
+        top_of(&rt, &run_words(alloc, "a.txt")?, &mut shelf, &mut sink),
         0
     );
     let output = taken_text(alloc, &sink)?;
@@ -141,7 +159,7 @@ fn the_last_entry_is_taken_and_one_more_declaration_is_refused(
 #[test]
 fn other_words_are_refused_before_anything_is_fetched(rt: HostRuntime) -> Result<(), Fail> {
     let alloc = rt.alloc();
-    let lists: [&[&str]; 29] = [
+    let lists: [&[&str]; 30] = [
         &[],
         &["run"],
         &["run", ""],
@@ -150,7 +168,8 @@ fn other_words_are_refused_before_anything_is_fetched(rt: HostRuntime) -> Result
         &["run", "--help"],
         &["run", "/"],
         &["run", "/4:16"],
-        &["run", "a.txt", "a.txt"],
+        &["run", "a.txt", ""],
+        &["run", "a.txt", "/", "a.txt"],
         &["Run", "a.txt"],
         &["help"],
         &["explain"],
@@ -176,7 +195,7 @@ fn other_words_are_refused_before_anything_is_fetched(rt: HostRuntime) -> Result
         let mut shelf = shelf_of(alloc, NEAR_TWO.as_bytes(), &[0])?;
         let mut sink = sink_of(alloc, ROOM, usize::MAX)?;
         assert_eq!(rt;
-            top(alloc, &words_of(alloc, list)?, &mut shelf, &mut sink),
+            top_of(&rt, &words_of(alloc, list)?, &mut shelf, &mut sink),
             2
         );
         assert_eq!(rt; taken_text(alloc, &sink)?.as_str(), "fault 2 words\n");
@@ -205,7 +224,7 @@ fn words_that_only_look_like_round_marks_name_files(rt: HostRuntime) -> Result<(
         let mut shelf = shelf_of(alloc, b"", &[])?;
         let mut sink = sink_of(alloc, ROOM, usize::MAX)?;
         assert_eq!(rt;
-            top(alloc, &run_words(alloc, name)?, &mut shelf, &mut sink),
+            top_of(&rt, &run_words(alloc, name)?, &mut shelf, &mut sink),
             3,
             "{name}"
         );
@@ -228,14 +247,14 @@ fn a_missing_an_unread_and_an_overlong_file_are_told_by_their_names(
         let mut shelf = shelf_of(alloc, text, fail)?;
         let mut sink = sink_of(alloc, ROOM, usize::MAX)?;
         assert_eq!(rt;
-            top(alloc, &run_words(alloc, name)?, &mut shelf, &mut sink),
+            top_of(&rt, &run_words(alloc, name)?, &mut shelf, &mut sink),
             want
         );
         assert_eq!(rt; taken_text(alloc, &sink)?.as_str(), line);
     }
     let mut longest = shelf_of(alloc, &long[1..], &[])?;
     let words = run_words(alloc, "a.txt")?;
-    assert_eq!(rt; top(alloc, &words, &mut longest, &mut SureSink::new()), 0);
+    assert_eq!(rt; top_of(&rt, &words, &mut longest, &mut SureSink::new()), 0);
     assert_eq!(rt; longest.file("a.txt").map(<[u8]>::len), Some(1 << 24));
     Ok(())
 }
@@ -246,7 +265,7 @@ fn a_sink_that_fails_in_a_fault_line_leaves_the_status(rt: HostRuntime) -> Resul
     let mut shelf = shelf_of(alloc, b"", &[])?;
     let mut sink = sink_of(alloc, ROOM, 10)?;
     assert_eq!(rt;
-        top(alloc, &run_words(alloc, "b.txt")?, &mut shelf, &mut sink),
+        top_of(&rt, &run_words(alloc, "b.txt")?, &mut shelf, &mut sink),
         3
     );
     assert_eq!(rt; taken_text(alloc, &sink)?.as_str(), "fault 3 mi");
@@ -259,7 +278,7 @@ fn a_sink_that_fails_has_a_front_of_the_output(rt: HostRuntime) -> Result<(), Fa
     let mut shelf = shelf_of(alloc, NEAR_TWO.as_bytes(), &[])?;
     let mut sink = sink_of(alloc, ROOM, 10)?;
     assert_eq!(rt;
-        top(alloc, &run_words(alloc, "a.txt")?, &mut shelf, &mut sink),
+        top_of(&rt, &run_words(alloc, "a.txt")?, &mut shelf, &mut sink),
         5
     );
     assert_eq!(rt; taken_text(alloc, &sink)?.as_str(), "replies 0 ");
@@ -278,8 +297,8 @@ fn a_shelf_that_never_fails_serves_the_same_run(rt: HostRuntime) -> Result<(), F
     let mut sink = sink_of(alloc, ROOM, usize::MAX)?;
     let words = run_words(alloc, "a.txt")?;
     assert_eq!(rt; words.len(), 2);
-    assert_eq!(rt; top(alloc, &words, &mut shelf, &mut sink), 0);
-    assert_eq!(rt; taken_text(alloc, &sink)?, run_text(alloc, NEAR_TWO)?.1);
+    assert_eq!(rt; top_of(&rt, &words, &mut shelf, &mut sink), 0);
+    assert_eq!(rt; taken_text(alloc, &sink)?, run_text(&rt, NEAR_TWO)?.1);
     assert_eq!(rt; shelf.file("a.txt"), Some(NEAR_TWO.as_bytes()));
     assert!(rt; shelf.file("b.txt").is_none());
     Ok(())

@@ -1,4 +1,4 @@
-ghost use Rattle.std.specs.Prelude.{◌≡◌, List, ℕ};
+ghost use Rattle.std.specs.Prelude.{◌≡◌, List, ℕ, [], map};
 ghost use Rattle.reg_model.specs.Runs.{RoundRows};
 ghost use Rattle.reg_requests.specs.declared.items.Line.{Line as ALine};
 ghost use Rattle.reg_requests.specs.Words.{line_words};
@@ -7,24 +7,44 @@ ghost use Rattle.reg_requests.specs.TakenIsccs.{HasIsccText, TakesIscc};
 ghost use Rattle.reg_session.specs.Outside.{outside};
 ghost use Rattle.reg_top.specs.Fetches.{RoundPlan};
 ghost use Rattle.reg_top.specs.Fetches.Command.{Run};
-ghost use Rattle.reg_top.specs.Words.{IsForm};
+ghost use Rattle.reg_top.specs.Words.{IsForm, IsSideCommand};
+ghost use Rattle.reg_top.specs.commands.Run.{accounts_served};
 ghost use Rattle.reg_top.specs.Outcomes.{Writes, IsOutcome};
 
 use crate::args::Args;
 use crate::commands::run::run_command;
+use crate::served::Served;
 use crate::side_commands::side;
-use reg_session::{Shelf, Sink};
+use reg_session::{Gate, Seals, Shelf, Sink};
 use std::alloc::Global;
+use std::sync::Wait;
+use std::thread::Threads;
 
-/// Does what the words say, and answers the status: docs/FORMATS.md has the words and the statuses.
+/// Does what the words say, and answers the status: docs/FORMATS.md has the words and the statuses. The sessions of a `run`
+/// have threads of their own, which wait for the gate, and for each other.
 ///
-/// Always returns. On status 5 the sink has a front of the output, and on every other status but 0 a line that tells it, or a
-/// front of that line where the sink failed.
-pub fn top<F: Shelf, K: Sink>(alloc: Global, words: &Args, shelf: &mut F, sink: &mut K) -> u8
-    // The output holds one history: each call of the named files once, in its file's order, with the registry's reply there.
+/// On status 5 the sink has a front of the output, and on every other status but 0 a line that tells it, or a front of that
+/// line where the sink failed. What the seals are on another status than 0 isn't told.
+pub fn top<F: Shelf, K: Sink, G: Gate, R: Threads + Wait + Sync>(
+    rt: &R,
+    alloc: Global,
+    words: &Args,
+    shelf: &mut F,
+    sink: &mut K,
+    gate: &G,
+    seals: &mut Seals<Served>,
+) -> u8
+    requires { seals.old ≡ [] }
+
+    // The output holds one history: each call of the named files once, in its file's order and after all that its session had
+    // seen, with the registry's reply there. For each round there is one seal of the desk, whose accounts are its sessions' rows.
     ensures run { (plan : List RoundPlan) → IsForm words.now (Run plan) → result ≡ 0 → (served : List RoundRows) × Writes (Run plan)
         (outside (F.files shelf.old) (F.fetch_faults shelf.old) (K.taken sink.old) (K.faults sink.old))
-        (outside (F.files shelf.new) (F.fetch_faults shelf.new) (K.taken sink.new) (K.faults sink.new)) served }
+        (outside (F.files shelf.new) (F.fetch_faults shelf.new) (K.taken sink.new) (K.faults sink.new)) served
+        × (seals.new ≡ map accounts_served served) }
+
+    // A command that serves nothing leaves no seal.
+    ensures seals { IsSideCommand words.now → seals.new ≡ [] }
 
     // The text of a `declare` or a `near` line is taken as an ISCC exactly where it stands for one.
     ensures text { (line text : List ℕ) (read : ALine) → ReadsLine line read → HasIsccText (line_words line) text → TakesIscc text read }
@@ -36,6 +56,6 @@ pub fn top<F: Shelf, K: Sink>(alloc: Global, words: &Args, shelf: &mut F, sink: 
 {
     match side(alloc, words, shelf, sink) {
         Some(status) => status,
-        None => run_command(alloc, words, shelf, sink),
+        None => run_command(rt, alloc, words, shelf, sink, gate, seals),
     }
 }

@@ -1,24 +1,27 @@
 ghost use Rattle.std.specs.Prelude.{◌≡◌, ◌<◌, ℕ, List, ◌↔◌, IsTrue, IfSome, IfNone, All, length, drop, slice_get};
 ghost use Rattle.reg_requests.specs.Numbers.{IsNumber};
-ghost use Rattle.reg_top.specs.Words.{IsValue, IsRoundMark, AreSizes, HasOneFile, HasOneValue, side_text, IsSideCommand};
+ghost use Rattle.reg_top.specs.Words.{IsValue, IsRoundMark, IsFileName, AreSizes, HasFiles, HasOneValue, side_text, IsSideCommand};
 
 use crate::args::Args;
+use reg_model::CALLERS_MOST;
 use reg_requests::read_number;
 
-/// The name of the file that a `run` names, where the words are of that form.
-pub(crate) fn run_file(words: &Args) -> Option<&str>
-    ensures found { IfSome result (λ name. HasOneFile words.now name.now) }
-    ensures none { IfNone result ((name : List ℕ) → HasOneFile words.now name → ⊥) }
+/// Whether the words are `run` and the names of files, one to 16.
+pub(crate) fn has_files(words: &Args) -> bool
+    ensures { IsTrue result ↔ HasFiles words.now (drop 1 words.now) }
 {
-    if words.len() != 2 || words.word(0) != "run" {
-        return None;
+    if words.len() < 2 || words.len() - 1 > CALLERS_MOST as usize {
+        return false;
     }
-    let name = words.word(1);
-    if is_value(name) && !is_round_mark(name) {
-        Some(name)
-    } else {
-        None
+    if words.word(0) != "run" {
+        return false;
     }
+    for at in 0..words.len() - 1 {
+        if !is_file_name(words.word(at + 1)) {
+            return false;
+        }
+    }
+    true
 }
 
 /// The first word of a command that serves nothing.
@@ -79,6 +82,13 @@ pub(crate) fn has_texts(words: &Args) -> bool
         }
     }
     true
+}
+
+// A value that ends no round.
+fn is_file_name(word: &str) -> bool
+    ensures { IsTrue result ↔ IsFileName word.now }
+{
+    is_value(word) && !is_round_mark(word)
 }
 
 // A word that isn't empty and doesn't begin with `-`.

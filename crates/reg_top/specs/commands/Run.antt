@@ -1,6 +1,6 @@
--- `run FILE`: what it writes.
+-- `run FILE ..`: what it writes, and the accounts of its sessions.
 use Rattle.std.specs.Prelude.{◌≡◌, ℕ, ◌+◌, List, [], ◌∷◌, ◌++◌, length, map, slice_get, All, Some, codes}
-use Rattle.std.specs.List.{AllZip}
+use Rattle.std.specs.List.{AllZip, range_with_len}
 use Rattle.std.specs.Fmt.{decimal}
 use Rattle.reg_model.specs.declared.reply.Row.{Row}
 use Rattle.reg_model.specs.Opening.{Opening}
@@ -43,6 +43,10 @@ MakesCalls lists round = (session : ℕ) (list : List Item) → slice_get lists 
 -- the items of the file with this name
 abbrev pub IsFileOf : Files → List ℕ → List Item → Type 0
 IsFileOf files name list = (bytes : List ℕ) × (files name ≡ Some bytes) × AreItems bytes list
+
+-- the accounts of a round's sessions, by number: the rows of each
+abbrev pub accounts_served : RoundRows → List (List Row)
+accounts_served round = map (λ session. session_rows session round.rows) (range_with_len 0 round.limits.callers)
 
 -- where a round has one session, a refusal for want of entries comes only below the log's end
 abbrev pub AskLogFirst : Opening → List RoundRows → Type 0

@@ -1,8 +1,8 @@
 use super::*;
 
 // What stands between the line that names the session and the history.
-fn replies(alloc: Global, text: &str) -> Result<String, Fail> {
-    let (status, output) = run_text(alloc, text)?;
+fn replies<R: Threads + Wait + Sync + AllocGlobal>(rt: &R, text: &str) -> Result<String, Fail> {
+    let (status, output) = run_text(rt, text)?;
     if status != 0 {
         return Err("no output".into());
     }
@@ -12,7 +12,7 @@ fn replies(alloc: Global, text: &str) -> Result<String, Fail> {
     let Some((replies, _)) = behind.split_once("iscc-history 1\n") else {
         return Err("no history".into());
     };
-    Ok(replies.to_string(alloc)?)
+    Ok(replies.to_string(rt.alloc())?)
 }
 
 #[test]
@@ -51,7 +51,7 @@ fn a_refused_line_is_told_with_its_first_fault_and_makes_no_row(
         ("instance 0g", "hex"),
     ];
     for (line, why) in cases {
-        let (status, output) = run_text(rt.alloc(), line)?;
+        let (status, output) = run_text(&rt, line)?;
         assert_eq!(rt; status, 0);
         let want = format!(in rt.alloc();
             "replies 0 0\nbad {why}\niscc-history 1\nround 0 base 0 entries 4096 log 65536 callers 1\nend 0 live 0\n"
@@ -91,7 +91,7 @@ bad line
 bad line
 bad hex
 ";
-    assert_eq!(rt; replies(alloc, text.as_str())?.as_str(), want);
+    assert_eq!(rt; replies(&rt, text.as_str())?.as_str(), want);
     Ok(())
 }
 
@@ -99,8 +99,8 @@ bad hex
 fn lines_without_words_and_comments_are_skipped(rt: HostRuntime) -> Result<(), Fail> {
     let text =
         "\n \t \n\r\n# declare ISCC:AAAQAAAAAAAAAAAA\n\t#\n \t declare \t\t ISCC:AAAQAAAAAAAAAAAA \r\n";
-    assert_eq!(rt; replies(rt.alloc(), text)?.as_str(), "id 0\n");
-    let (_, output) = run_text(rt.alloc(), "# nothing")?;
+    assert_eq!(rt; replies(&rt, text)?.as_str(), "id 0\n");
+    let (_, output) = run_text(&rt, "# nothing")?;
     assert_eq!(rt;
         output.as_str(),
         "replies 0 0\niscc-history 1\nround 0 base 0 entries 4096 log 65536 callers 1\nend 0 live 0\n"
@@ -114,7 +114,7 @@ fn a_unit_is_declared_by_its_first_64_bits(rt: HostRuntime) -> Result<(), Fail> 
     let text =
         "declare AADQAAAAAAAAAAAAAAAAAAAAAAAAAAAAAAAAAAAAAAAAAAAAAAAAAAA\nnear aaaq-aaaa-aaaa-aaaa 015\nshow 0\n";
     assert_eq!(rt;
-        replies(rt.alloc(), text)?.as_str(),
+        replies(&rt, text)?.as_str(),
         "id 0\nhits 1 0,0,ISCC:AAAQAAAAAAAAAAAA\nlive ISCC:AAAQAAAAAAAAAAAA\n"
     );
     Ok(())
@@ -132,7 +132,7 @@ id 1
 hits 2 0,15,ISCC:AAAQABYAB4AA6AAP 1,15,ISCC:AAAQADYAB4AA6AAH
 hits 0
 ";
-    assert_eq!(rt; replies(rt.alloc(), text)?.as_str(), want);
+    assert_eq!(rt; replies(&rt, text)?.as_str(), want);
     Ok(())
 }
 
@@ -149,7 +149,7 @@ hits 1 1,0,ISCC:EAAQAAAAAAAAAAAA
 hits 1 2,0,ISCC:GAAQAAAAAAAAAAAA
 hits 1 3,0,ISCC:IAA26E2JXH27TING
 ";
-    assert_eq!(rt; replies(rt.alloc(), text)?.as_str(), want);
+    assert_eq!(rt; replies(&rt, text)?.as_str(), want);
     Ok(())
 }
 
@@ -162,7 +162,7 @@ hits 1 0,0,ISCC:IAAWIN5TVQ4EMUJT
 id 1
 hits 1 1,0,ISCC:IAA26E2JXH27TING
 ";
-    assert_eq!(rt; replies(rt.alloc(), text)?.as_str(), want);
+    assert_eq!(rt; replies(&rt, text)?.as_str(), want);
     Ok(())
 }
 
@@ -201,7 +201,7 @@ round 0 base 0 entries 4096 log 65536 callers 1
 0.8 @2 after 3 = ahead
 end 9 live 0
 ";
-    let (status, output) = run_text(rt.alloc(), text)?;
+    let (status, output) = run_text(&rt, text)?;
     assert_eq!(rt; status, 0);
     assert_eq!(rt; output.as_str(), want);
     Ok(())
@@ -223,7 +223,7 @@ round 0 base 0 entries 4096 log 65536 callers 1
 0.3 @3 count = count 1
 end 4 live 1
 ";
-    let (status, output) = run_text(rt.alloc(), text)?;
+    let (status, output) = run_text(&rt, text)?;
     assert_eq!(rt; status, 0);
     assert_eq!(rt; output.as_str(), want);
     Ok(())
@@ -240,7 +240,7 @@ fn a_withdrawal_gives_its_entry_back(rt: HostRuntime) -> Result<(), Fail> {
     let mut shelf = shelf_of(alloc, text.as_bytes(), &[])?;
     let mut sink = ListSink::new(Vec::with_capacity(alloc, 1 << 20)?, 65536, usize::MAX);
     assert_eq!(rt;
-        top(alloc, &run_words(alloc, "a.txt")?, &mut shelf, &mut sink),
+        top_of(&rt, &run_words(alloc, "a.txt")?, &mut shelf, &mut sink),
         0
     );
     let output = taken_text(alloc, &sink)?;

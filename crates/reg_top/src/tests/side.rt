@@ -372,7 +372,7 @@ fn a_history_may_begin_in_the_last_line(rt: HostRuntime) -> Result<(), Fail> {
 #[test]
 fn the_output_of_a_run_is_checked_as_it_is(rt: HostRuntime) -> Result<(), Fail> {
     let alloc = rt.alloc();
-    let (run_status, saved) = run_text(alloc, NEAR_TWO)?;
+    let (run_status, saved) = run_text(&rt, NEAR_TWO)?;
     assert_eq!(rt; run_status, 0);
     let (status, output) = side_text(alloc, &["check", "a.txt"], saved.as_bytes(), &[])?;
     assert_eq!(rt; output.as_str(), "lawful rows 3 live 2\n");

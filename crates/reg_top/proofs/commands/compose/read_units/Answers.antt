@@ -1,5 +1,6 @@
 use Rattle.std.proofs.Common.{◌≡◌, inl, refl, ◌++◌, [], ◌∷◌, drop, rules}
-use Rattle.reg_top.proofs.Compositions.{behind_first, read_more, refused_at}
+use Rattle.reg_top.proofs.BehindFirst.{behind_first}
+use Rattle.reg_top.proofs.Compositions.{read_more, refused_at}
 use Rattle.reg_top.proofs.commands.compose.read_units.Goals as goal
 
 pub returns-in-Err-clause-declines : goal.returns-in-Err-clause-declines
