@@ -19,8 +19,8 @@ use Rattle.reg_model.specs.Limits.{Limits}
 use Rattle.reg_model.specs.Merge.{AreAccounts}
 use Rattle.reg_model.specs.Opening.{Opening}
 use Rattle.reg_model.specs.Rows.{AsksLogFirst, IsSeenBy, all_rows}
-use Rattle.reg_session.specs.declared.rounds.Seat.{Seat}
-use Rattle.reg_session.specs.declared.rounds.Served.{Served}
+use Rattle.reg_session.specs.declared.rounds.SessionSeat.{SessionSeat}
+use Rattle.reg_session.specs.declared.rounds.SessionDone.{SessionDone}
 use Rattle.reg_session.specs.Sessions.{MayBeMade, calls_made, HasMade, ServesRound}
 use Rattle.reg_session.specs.inner.Rounds.{IsSeat, IsServed, ServedFrom}
 
@@ -102,20 +102,20 @@ numbers_more : (n : ℕ) → range_with_len 0 n ++ n ∷ [] ≡ range_with_len 0
 numbers_more n =
     (λ i. sym (map-id (range_with_len 0 n)) i ++ n ∷ []) ∙ (sym (map-range_with_len_more (λ (k : ℕ). k) 0 n n (omega arith)) ∙ map-id (range_with_len 0 (n + 1)))
 
-pub seat_more : {P : Type 0} (seats new : List (Seat P)) (passes : List P) (n : ℕ) (pass : P) → new ≡ seats ++ record { number = n; pass = pass } ∷ [] → n ≡ length passes
-    → map (λ (seat : Seat P). seat.number) seats ≡ range_with_len 0 (length passes) → map (λ (seat : Seat P). seat.number) new ≡ range_with_len 0 (length (passes ++ pass ∷ []))
+pub seat_more : {P : Type 0} (seats new : List (SessionSeat P)) (passes : List P) (n : ℕ) (pass : P) → new ≡ seats ++ record { number = n; pass = pass } ∷ [] → n ≡ length passes
+    → map (λ (seat : SessionSeat P). seat.number) seats ≡ range_with_len 0 (length passes) → map (λ (seat : SessionSeat P). seat.number) new ≡ range_with_len 0 (length (passes ++ pass ∷ []))
 seat_more {P} seats new passes n pass is count are =
-    ap (map (λ (seat : Seat P). seat.number)) is ∙ (map-append (λ (seat : Seat P). seat.number) seats (record { number = n; pass = pass } ∷ [])
+    ap (map (λ (seat : SessionSeat P). seat.number)) is ∙ (map-append (λ (seat : SessionSeat P). seat.number) seats (record { number = n; pass = pass } ∷ [])
     ∙ ((λ i. are i ++ count i ∷ []) ∙ (numbers_more (length passes) ∙ ap (range_with_len 0) (sym (length-append passes (pass ∷ []))))))
 
-pub pass_more : {P : Type 0} (seats new : List (Seat P)) (passes : List P) (n : ℕ) (pass : P) → new ≡ seats ++ record { number = n; pass = pass } ∷ []
-    → map (λ (seat : Seat P). seat.pass) seats ≡ passes → map (λ (seat : Seat P). seat.pass) new ≡ passes ++ pass ∷ []
+pub pass_more : {P : Type 0} (seats new : List (SessionSeat P)) (passes : List P) (n : ℕ) (pass : P) → new ≡ seats ++ record { number = n; pass = pass } ∷ []
+    → map (λ (seat : SessionSeat P). seat.pass) seats ≡ passes → map (λ (seat : SessionSeat P). seat.pass) new ≡ passes ++ pass ∷ []
 pass_more {P} seats new passes n pass is are =
-    ap (map (λ (seat : Seat P). seat.pass)) is ∙ (map-append (λ (seat : Seat P). seat.pass) seats (record { number = n; pass = pass } ∷ []) ∙ (λ i. are i ++ pass ∷ []))
+    ap (map (λ (seat : SessionSeat P). seat.pass)) is ∙ (map-append (λ (seat : SessionSeat P). seat.pass) seats (record { number = n; pass = pass } ∷ []) ∙ (λ i. are i ++ pass ∷ []))
 
 module _ {P : Type 0} (fit : P → Type 0) (view : P → PassView) (sessions : ℕ) where
-  seats_from : (seats : List (Seat P)) (base a n : ℕ) → map (λ (seat : Seat P). seat.number) seats ≡ range_with_len a n
-      → map view (map (λ (seat : Seat P). seat.pass) seats) ≡ map (new_pass base) (range_with_len a n) → AllByRecursion fit (map (λ (seat : Seat P). seat.pass) seats) → a + n ≤ sessions
+  seats_from : (seats : List (SessionSeat P)) (base a n : ℕ) → map (λ (seat : SessionSeat P). seat.number) seats ≡ range_with_len a n
+      → map view (map (λ (seat : SessionSeat P). seat.pass) seats) ≡ map (new_pass base) (range_with_len a n) → AllByRecursion fit (map (λ (seat : SessionSeat P). seat.pass) seats) → a + n ≤ sessions
       → All (IsSeat fit view sessions) seats
   seats_from [] base a n are views fits few = All-nil (IsSeat fit view sessions)
   seats_from (s ∷ seats) base a zero are views fits few = absurd (cc (are))
@@ -139,13 +139,13 @@ module _ {P : Type 0} (fit : P → Type 0) (view : P → PassView) (sessions : �
   many_passes passes base views =
       sym (length-map passes view) ∙ (ap length views ∙ (length-map (range_with_len 0 sessions) (new_pass base) ∙ length-range_with_len 0 sessions))
 
-  pub seats_all : (seats : List (Seat P)) (passes : List P) (base : ℕ) → map (λ (seat : Seat P). seat.pass) seats ≡ passes → map (λ (seat : Seat P). seat.number) seats ≡ range_with_len 0 (length passes)
+  pub seats_all : (seats : List (SessionSeat P)) (passes : List P) (base : ℕ) → map (λ (seat : SessionSeat P). seat.pass) seats ≡ passes → map (λ (seat : SessionSeat P). seat.number) seats ≡ range_with_len 0 (length passes)
       → map view passes ≡ map (new_pass base) (range_with_len 0 sessions) → All fit passes → All (IsSeat fit view sessions) seats
   seats_all seats passes base are nums views fits =
-      seats_from seats base 0 sessions (nums ∙ ap (range_with_len 0) (many_passes passes base views)) (ap (map view) are ∙ views) (recursion_from_All fit (map (λ (seat : Seat P). seat.pass) seats) (subst (All fit) (sym are) fits)) (omega arith)
+      seats_from seats base 0 sessions (nums ∙ ap (range_with_len 0) (many_passes passes base views)) (ap (map view) are ∙ views) (recursion_from_All fit (map (λ (seat : SessionSeat P). seat.pass) seats) (subst (All fit) (sym are) fits)) (omega arith)
 
-pub many_seats : {P : Type 0} (seats : List (Seat P)) (n : ℕ) → map (λ (seat : Seat P). seat.number) seats ≡ range_with_len 0 n → length seats ≡ n
-many_seats {P} seats n are = sym (length-map seats (λ (seat : Seat P). seat.number)) ∙ (ap length are ∙ length-range_with_len 0 n)
+pub many_seats : {P : Type 0} (seats : List (SessionSeat P)) (n : ℕ) → map (λ (seat : SessionSeat P). seat.number) seats ≡ range_with_len 0 n → length seats ≡ n
+many_seats {P} seats n are = sym (length-map seats (λ (seat : SessionSeat P). seat.number)) ∙ (ap length are ∙ length-range_with_len 0 n)
 
 -- ---- the sessions that have made their calls
 
@@ -235,22 +235,22 @@ module _ (limits : Limits) (opening : Opening) where
 
   -- ---- one more session
 
-  module _ {P E : Type 0} (fit : P → Type 0) (view : P → PassView) (lists : List (List Call)) (seats : List (Seat P)) (all : List (Result (Served P) E)) where
+  module _ {P E : Type 0} (fit : P → Type 0) (view : P → PassView) (lists : List (List Call)) (seats : List (SessionSeat P)) (all : List (Result (SessionDone P) E)) where
     abbrev pub EachServed : Type 0
-    EachServed = (i : ℕ) (seat : Seat P) (served : Result (Served P) E) → slice_get seats i ≡ Some seat → slice_get all i ≡ Some served → IfOk served (IsServed fit view limits opening lists seat)
+    EachServed = (i : ℕ) (seat : SessionSeat P) (served : Result (SessionDone P) E) → slice_get seats i ≡ Some seat → slice_get all i ≡ Some served → IfOk served (IsServed fit view limits opening lists seat)
 
     at_seam : {X : Type 0} (front rest : List X) (x : X) → slice_get (front ++ x ∷ rest) (length front) ≡ Some x
     at_seam [] rest x = refl
     at_seam (f ∷ front) rest x = at_seam front rest x
 
-    record IsNext (taken : List (Result (Served P) E)) (served : Served P) : Type 0 where
-      seat : Seat P
+    record IsNext (taken : List (Result (SessionDone P) E)) (served : SessionDone P) : Type 0 where
+      seat : SessionSeat P
       number : seat.number ≡ length taken
       low : length taken < length lists
       is : IsServed fit view limits opening lists seat served
 
-    module _ (each : EachServed) (many : length all ≡ length seats) (nums : map (λ (seat : Seat P). seat.number) seats ≡ range_with_len 0 (length lists))
-        (taken rest : List (Result (Served P) E)) (x : Result (Served P) E) (served : Served P) (ok : x ≡ Ok served) (is : taken ++ x ∷ rest ≡ all) where
+    module _ (each : EachServed) (many : length all ≡ length seats) (nums : map (λ (seat : SessionSeat P). seat.number) seats ≡ range_with_len 0 (length lists))
+        (taken rest : List (Result (SessionDone P) E)) (x : Result (SessionDone P) E) (served : SessionDone P) (ok : x ≡ Ok served) (is : taken ++ x ∷ rest ≡ all) where
       same_number : (m n : ℕ) → Some m ≡ Some n → m ≡ n
       same_number m n same = cc (same)
 
@@ -265,7 +265,7 @@ module _ (limits : Limits) (opening : Opening) where
           record {
             seat = seat;
             number = same_number seat.number n
-                (sym (slice_get-map (λ (s : Seat P). s.number) seats n ∙ ap (option_map (λ (s : Seat P). s.number)) here)
+                (sym (slice_get-map (λ (s : SessionSeat P). s.number) seats n ∙ ap (option_map (λ (s : SessionSeat P). s.number)) here)
                 ∙ (ap (λ l. slice_get l n) nums ∙ slice_get_read (range_with_len 0 (length lists)) (length lists) n n (sym (length-range_with_len 0 (length lists))) low
                 ((let more : n ≡ 0 + n = omega arith in more) ∙ sym (get_or-range_with_len 0 (length lists) n n low))));
             low = low;

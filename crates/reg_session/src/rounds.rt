@@ -4,8 +4,8 @@ ghost use Rattle.iscc_header.specs.declared.memory.NoMemory.{NoMemory as Wanting
 ghost use Rattle.reg_model.specs.Desks.{PassView, HasNoSnapshot, new_passes, Closes};
 ghost use Rattle.reg_model.specs.Registry.{start_refusal};
 ghost use Rattle.reg_session.specs.Sessions.{MayBeMade, ServesRound};
-ghost use Rattle.reg_session.specs.declared.rounds.Seat.{Seat as ASeat};
-ghost use Rattle.reg_session.specs.declared.rounds.Served.{Served as AServed};
+ghost use Rattle.reg_session.specs.declared.rounds.SessionSeat.{SessionSeat as ASeat};
+ghost use Rattle.reg_session.specs.declared.rounds.SessionDone.{SessionDone as AServed};
 ghost use Rattle.reg_session.specs.inner.Rounds.{IsSeat, IsServed, ServedFrom};
 
 use crate::gate::Gate;
@@ -23,14 +23,14 @@ pub type RoundFault = StartFault;
 
 // A session of a round, with its pass.
 #[derive(Drop)]
-struct Seat<P: Drop> {
+struct SessionSeat<P: Drop> {
     number: u32,
     pass: P,
 }
 
 // A session that has made its calls.
 #[derive(Drop)]
-struct Served<P: Drop> {
+struct SessionDone<P: Drop> {
     pass: P,
     rows: Rows,
 }
@@ -113,7 +113,7 @@ fn serve_all<D: Desk, G: Gate, R: Threads + Wait + Sync>(
     let mut passes = Vec::new(alloc);
     let mut accounts = Accounts::new(alloc);
     for served in serve_each(rt, alloc, desk, seats, calls, gate)? {
-        let Served { pass, rows } = served?;
+        let SessionDone { pass, rows } = served?;
         passes.push(pass)?;
         accounts.push(rows)?;
     }
@@ -121,7 +121,7 @@ fn serve_all<D: Desk, G: Gate, R: Threads + Wait + Sync>(
 }
 
 // Numbers the passes from 0 on.
-fn seated<P: Drop>(alloc: Global, passes: Vec<P>) -> Result<Vec<Seat<P>>, NoMemory>
+fn seated<P: Drop>(alloc: Global, passes: Vec<P>) -> Result<Vec<SessionSeat<P>>, NoMemory>
     requires { length passes.items < 2 ^ 32 }
     ensures passes { IfOk result (λ seats. map (λ seat. seat.pass) seats.items ≡ passes.items) }
     ensures numbers { IfOk result (λ seats. map (λ seat. seat.number) seats.items ≡ range_with_len 0 (length passes.items)) }
@@ -129,7 +129,7 @@ fn seated<P: Drop>(alloc: Global, passes: Vec<P>) -> Result<Vec<Seat<P>>, NoMemo
     let mut seats = Vec::new(alloc);
     for pass in passes {
         let number = seats.len() as u32;
-        seats.push(Seat { number, pass })?;
+        seats.push(SessionSeat { number, pass })?;
     }
     Ok(seats)
 }
@@ -139,10 +139,10 @@ fn serve_each<D: Desk, G: Gate, R: Threads + Wait + Sync>(
     rt: &R,
     alloc: Global,
     desk: &D,
-    seats: Vec<Seat<D::Pass>>,
+    seats: Vec<SessionSeat<D::Pass>>,
     calls: &[Vec<Call>],
     gate: &G,
-) -> Result<Vec<Result<Served<D::Pass>, NoMemory>>, NoMemory>
+) -> Result<Vec<Result<SessionDone<D::Pass>, NoMemory>>, NoMemory>
     requires calls { All MayBeMade (map (λ list. list.items) calls.now) }
     requires seats { All (IsSeat (D.fit desk.now) D.pass_view (length calls.now)) seats.items }
     ensures count { IfOk result (λ all. length all.items ≡ length seats.items) }
@@ -152,7 +152,7 @@ fn serve_each<D: Desk, G: Gate, R: Threads + Wait + Sync>(
     Ok(thread::map_vec(
         rt,
         seats,
-        &|seat: Seat<D::Pass>| -> Result<Served<D::Pass>, NoMemory>
+        &|seat: SessionSeat<D::Pass>| -> Result<SessionDone<D::Pass>, NoMemory>
             requires calls { All MayBeMade (map (λ list. list.items) calls.now) }
             requires seat { IsSeat (D.fit desk.now) D.pass_view (length calls.now) seat }
             ensures { IfOk result (IsServed (D.fit desk.entry.now) D.pass_view (D.limits desk.entry.now) (D.opening desk.entry.now) (map (λ list. list.items) calls.entry.now) seat) }
@@ -165,18 +165,18 @@ fn serve_seat<D: Desk, G: Gate, R: Wait>(
     rt: &R,
     alloc: Global,
     desk: &D,
-    seat: Seat<D::Pass>,
+    seat: SessionSeat<D::Pass>,
     calls: &[Vec<Call>],
     gate: &G,
-) -> Result<Served<D::Pass>, NoMemory>
+) -> Result<SessionDone<D::Pass>, NoMemory>
     requires calls { All MayBeMade (map (λ list. list.items) calls.now) }
     requires seat { IsSeat (D.fit desk.now) D.pass_view (length calls.now) seat }
     ensures { IfOk result (IsServed (D.fit desk.now) D.pass_view (D.limits desk.now) (D.opening desk.now) (map (λ list. list.items) calls.now) seat) }
 {
-    let Seat { number, mut pass } = seat;
+    let SessionSeat { number, mut pass } = seat;
     let calls = calls[number as usize].as_slice();
     let rows = serve(rt, alloc, desk, &mut pass, number, calls, gate)?;
-    Ok(Served { pass, rows })
+    Ok(SessionDone { pass, rows })
 }
 
 // Ends a round whose passes stand in the order of their numbers.

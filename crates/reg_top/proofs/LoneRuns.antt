@@ -1,15 +1,16 @@
 -- Runs whose rounds have one session each.
-use Rattle.std.proofs.Common.{◌≡◌, ℕ, true, List, [], ◌∷◌, ◌++◌, map, length, drop, refl, sym, ◌∙◌, ap, ap₂, subst, arith}
-use Rattle.std.specs.Prelude.{All, ◌==◌}
+use Rattle.std.proofs.Common.{◌≡◌, ℕ, ◌^◌, ◌≤◌, true, List, [], ◌∷◌, ◌++◌, map, length, drop, refl, sym, ◌∙◌, ap, ap₂, subst, arith}
+use Rattle.std.specs.Prelude.{All, ◌==◌, Option, Some, IfSome}
 use Rattle.std.specs.List.{AllZip, AllByRecursion}
 use Rattle.std.proofs.lemmas.Option.{same_Some}
+use Rattle.std.proofs.lemmas.List.{length-map}
 use Rattle.std.proofs.lemmas.List.Elements.{recursion_from_All}
 use Rattle.reg_model.specs.declared.call.Call.{Call}
 use Rattle.reg_model.specs.declared.reply.Row.{Row}
 use Rattle.reg_model.specs.Limits.{Limits}
 use Rattle.reg_model.specs.Opening.{Opening, IsOpening}
 use Rattle.reg_model.specs.Rows.{MayFollow, EachAfter, IsLawful, AsksLogFirst, session_rows}
-use Rattle.reg_model.specs.Runs.{RoundRows, next_opening, IsLawfulRound, IsLawfulRun}
+use Rattle.reg_model.specs.Runs.{RoundRows, nothing, next_opening, IsLawfulRound, IsLawfulRun}
 use Rattle.reg_model.proofs.LawfulRounds.{next_opens}
 use Rattle.reg_model.proofs.LoneRounds.{lone_round}
 use Rattle.reg_requests.specs.declared.items.Item.{Item}
@@ -17,9 +18,12 @@ use Rattle.reg_requests.specs.Requests.{AreItems, calls_of}
 use Rattle.reg_requests.proofs.FileItems.{one_list}
 use Rattle.reg_history.specs.History.{history_text}
 use Rattle.reg_session.specs.Files.{Files}
-use Rattle.reg_top.specs.Fetches.{RoundPlan}
+use Rattle.reg_session.specs.Outside.{Outside, TakesWhole}
+use Rattle.reg_top.specs.Fetches.{RoundPlan, Fetch, fetch_of, fetches}
 use Rattle.reg_top.specs.Fetches.Command.{Run}
-use Rattle.reg_top.specs.Words.{IsForm}
+use Rattle.reg_top.specs.Words.{IsForm, plan_of}
+use Rattle.reg_top.specs.Outcomes.{GivenBy, Writes, TakesLoneOutput}
+use Rattle.reg_top.proofs.SessionFiles.{fetched_are}
 use Rattle.reg_top.proofs.Forms.{one_form}
 use Rattle.reg_top.specs.commands.Run.{IsRunOutput, reply_texts, MakesCalls, IsFileOf, AskLogFirst}
 use Rattle.reg_top.specs.Laws.{LoneWordsTellOutput}
@@ -160,3 +164,24 @@ pub lone_runs : LoneWordsTellOutput
 lone_runs words plan again files opening served other output more form repeated lone a b =
     lone_plans opening plan files served other output more lone a
     (subst (λ p. IsRunOutput opening p files other more) (same_plan words plan again form repeated) b)
+
+-- ---- what the sink has taken
+
+given_some : (list : List Fetch) (told : Option Files) (files : Files) (P : Files → Type 0) → 1 ≤ length list → told ≡ Some files → GivenBy list told P → P files
+given_some [] told files P some held given = absurd (omega (arith, some))
+given_some (f ∷ list) told files P some held given = subst (λ o. IfSome o P) held given
+
+some_fetched : (words : List (List ℕ)) (plan : List RoundPlan) → IsForm words (Run plan) → 1 ≤ length (fetches (Run plan))
+some_fetched words plan form =
+    let names = form.0 in
+    let named = form.1 in
+    let many : length (fetches (Run (plan_of names))) ≡ length names = ap length (fetched_are names) ∙ length-map names (fetch_of (2 ^ 24)) in
+    subst (λ (p : List RoundPlan). 1 ≤ length (fetches (Run p))) (sym form.2) (omega (arith, many, named.some))
+
+pub lone_taken : (words : List (List ℕ)) (plan : List RoundPlan) (before after : Outside) (served : List RoundRows) → IsForm words (Run plan) → Writes (Run plan) before after served
+    → TakesLoneOutput plan before after
+lone_taken words plan before after served form writes files other output lone held is =
+    let wrote = given_some (fetches (Run plan)) before.shelf.files files (λ map. (text : List ℕ) × IsRunOutput nothing plan map served text × TakesWhole before.sink.taken after.sink.taken text)
+    (some_fetched words plan form) held writes in
+    let same = lone_runs words plan plan files nothing served other wrote.0 output form form lone wrote.1 is in
+    subst (TakesWhole before.sink.taken after.sink.taken) same.1 wrote.2

@@ -22,9 +22,10 @@ use Rattle.reg_top.specs.Outcomes.{GivenBy, IsHeld, IsReached}
 use Rattle.reg_top.specs.inner.Endings.{UnreadWhy, unread_line, Fetched, Makes, Ends}
 use Rattle.reg_top.specs.inner.OneRound.{MayBeServed, IsRead, IsFirstUnread}
 use Rattle.reg_top.proofs.BehindFirst.{cut_at}
+use Rattle.reg_top.proofs.Makings.{run_makes}
 
 -- the files that a run of one round fetches
-fetched_are : (names : List (List ℕ)) → fetches (Run (plan_of names)) ≡ map (fetch_of (2 ^ 24)) names
+pub fetched_are : (names : List (List ℕ)) → fetches (Run (plan_of names)) ≡ map (fetch_of (2 ^ 24)) names
 fetched_are names = ap (map (fetch_of (2 ^ 24))) (append-nil names)
 
 -- ---- files that were read
@@ -73,7 +74,7 @@ made_of : (list : List Fetch) (files : Option Files) (names : List (List ℕ)) (
     → GivenBy list files (λ told. Makes (Run (plan_of names)) told served output)
 made_of [] files names lists served output some read makes = absurd (omega (arith, some))
 made_of (f ∷ list) None names lists served output some read makes = tt
-made_of (f ∷ list) (Some told) names lists served output some read makes = record { is = makes told names read; unrefused = λ refusal refuses. refuses }
+made_of (f ∷ list) (Some told) names lists served output some read makes = run_makes (plan_of names) told served output (makes told names read)
 
 pub runs_make : (names : List (List ℕ)) (lists : List (List Item)) (before : Outside) (served : List RoundRows) (output : List ℕ) → 1 ≤ length names → AllZip (IsRead before.shelf.files) names lists
     → ((told : Files) (names : List (List ℕ)) → AllZip (IsRead (Some told)) names lists → IsRunOutput nothing (plan_of names) told served output)

@@ -1,12 +1,13 @@
 -- How a call of the program ends, and why.
-use Rattle.std.specs.Prelude.{◌≡◌, ◌↔◌, ◌⊎◌, ℕ, ◌<◌, ◌≤◌, List, [], ◌∷◌, ◌++◌, length, All, Contains, Option, None, IfSome, IsSomeAnd}
-use Rattle.reg_model.specs.Runs.{RoundRows}
+use Rattle.std.specs.Prelude.{◌≡◌, ◌↔◌, ◌⊎◌, ℕ, ◌<◌, ◌≤◌, List, [], ◌∷◌, ◌++◌, length, All, Contains, Option, Some, None, IfSome, IsSomeAnd}
+use Rattle.reg_model.specs.Runs.{RoundRows, nothing}
 use Rattle.reg_session.specs.Faults.{Rose, Quiet}
 use Rattle.reg_session.specs.Files.{Files}
 use Rattle.reg_session.specs.Outside.{Outside, TakesWhole, TakesPart, Tells}
 use Rattle.reg_top.specs.declared.refusal.Refusal.{Refusal}
-use Rattle.reg_top.specs.Fetches.{Command, Fetch, fetches}
+use Rattle.reg_top.specs.Fetches.{RoundPlan, Command, Fetch, fetches}
 use Rattle.reg_top.specs.Words.{IsForm}
+use Rattle.reg_top.specs.commands.Run.{IsRunOutput}
 use Rattle.reg_top.specs.Dispatch.{IsOutput, Refuses}
 use Rattle.reg_top.specs.FaultLines.{words_line, missing_line, read_line, long_line, memory_line, refusal_line, refusal_number}
 
@@ -55,6 +56,12 @@ Writes command before after served =
 abbrev pub WritesFront : Command → Outside → Outside → List RoundRows → Type 0
 WritesFront command before after served =
     GivenBy (fetches command) before.shelf.files (λ files. (output : List ℕ) × IsOutput command files served output × TakesPart before.sink.taken after.sink.taken output)
+
+-- where each round has one session, it has taken the one output that the words and files have
+abbrev pub TakesLoneOutput : List RoundPlan → Outside → Outside → Type 0
+TakesLoneOutput plan before after =
+    (files : Files) (served : List RoundRows) (output : List ℕ) → All (λ (p : RoundPlan). p.limits.callers ≡ 1) plan → before.shelf.files ≡ Some files
+    → IsRunOutput nothing plan files served output → TakesWhole before.sink.taken after.sink.taken output
 
 -- The first file that gives no bytes has this fault, and its line is told; no fetch failed.
 pub record TellsFile (command : Command) (before after : Outside) (HasFault : Files → Fetch → Type 0) (line_of : List ℕ → List ℕ) : Type 0 where

@@ -9,7 +9,7 @@ ghost use Rattle.reg_top.specs.Fetches.{RoundPlan};
 ghost use Rattle.reg_top.specs.Fetches.Command.{Run};
 ghost use Rattle.reg_top.specs.Words.{IsForm, IsSideCommand};
 ghost use Rattle.reg_top.specs.commands.Run.{accounts_served};
-ghost use Rattle.reg_top.specs.Outcomes.{Writes, IsOutcome};
+ghost use Rattle.reg_top.specs.Outcomes.{Writes, TakesLoneOutput, IsOutcome};
 
 use crate::args::Args;
 use crate::commands::run::run_command;
@@ -42,6 +42,11 @@ pub fn top<F: Shelf, K: Sink, G: Gate, R: Threads + Wait + Sync>(
         (outside (F.files shelf.old) (F.fetch_faults shelf.old) (K.taken sink.old) (K.faults sink.old))
         (outside (F.files shelf.new) (F.fetch_faults shelf.new) (K.taken sink.new) (K.faults sink.new)) served
         × (seals.new ≡ map accounts_served served) }
+
+    // Where there is one session the output is the one that the words and files have.
+    ensures lone { (plan : List RoundPlan) → IsForm words.now (Run plan) → result ≡ 0 → TakesLoneOutput plan
+        (outside (F.files shelf.old) (F.fetch_faults shelf.old) (K.taken sink.old) (K.faults sink.old))
+        (outside (F.files shelf.new) (F.fetch_faults shelf.new) (K.taken sink.new) (K.faults sink.new)) }
 
     // A command that serves nothing leaves no seal.
     ensures seals { IsSideCommand words.now → seals.new ≡ [] }

@@ -1,6 +1,6 @@
 //! A desk behind one turn: a registry that one caller at a time has.
 //!
-//! It stands on `reg_model`, whose trait `Desk` it implements. No command serves over it yet.
+//! It stands on `reg_model`, whose trait `Desk` it implements. `reg_top` serves over it.
 //!
 //! The registry, a `Plain`, lies in the one slot of a table. The table's one word is 0 while nobody has the turn. A call
 //! exchanges the word from 0 to 1, takes the registry out of the slot, asks it, puts it back and stores 0; a pass is a seat

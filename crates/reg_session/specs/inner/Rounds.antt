@@ -5,18 +5,18 @@ use Rattle.reg_model.specs.declared.reply.Row.{Row}
 use Rattle.reg_model.specs.Desks.{PassView}
 use Rattle.reg_model.specs.Limits.{Limits}
 use Rattle.reg_model.specs.Opening.{Opening}
-use Rattle.reg_session.specs.declared.rounds.Seat.{Seat}
-use Rattle.reg_session.specs.declared.rounds.Served.{Served}
+use Rattle.reg_session.specs.declared.rounds.SessionSeat.{SessionSeat}
+use Rattle.reg_session.specs.declared.rounds.SessionDone.{SessionDone}
 use Rattle.reg_session.specs.Sessions.{IsUnused, HasMade}
 
 -- the seat of one of so many sessions, which has made no call
-pub record IsSeat {P : Type 0} (fit : P → Type 0) (view : P → PassView) (sessions : ℕ) (seat : Seat P) : Type 0 where
+pub record IsSeat {P : Type 0} (fit : P → Type 0) (view : P → PassView) (sessions : ℕ) (seat : SessionSeat P) : Type 0 where
   pub low : seat.number < sessions
   pub own : fit seat.pass
   pub unused : IsUnused seat.number (view seat.pass)
 
 -- the calls of the seat's session were made
-pub record IsServed {P : Type 0} (fit : P → Type 0) (view : P → PassView) (limits : Limits) (opening : Opening) (lists : List (List Call)) (seat : Seat P) (served : Served P) : Type 0 where
+pub record IsServed {P : Type 0} (fit : P → Type 0) (view : P → PassView) (limits : Limits) (opening : Opening) (lists : List (List Call)) (seat : SessionSeat P) (served : SessionDone P) : Type 0 where
   pub own : fit served.pass
   pub made : (calls : List Call) → slice_get lists seat.number ≡ Some calls → HasMade limits opening seat.number calls (view served.pass)
   pub rows : served.rows ≡ (view served.pass).account

@@ -2,7 +2,7 @@ ghost use Rattle.std.specs.Prelude.{◌≡◌, length};
 
 use super::*;
 use reg_history::check_history;
-use std::sync::atomic::{AtomicBool, Ordering};
+use std::sync::atomic::{AtomicBool, AtomicU32, Ordering};
 use std::thread;
 
 // A shelf of files with these names and texts.
@@ -122,7 +122,7 @@ fn the_first_file_that_gives_nothing_is_told_by_its_name(rt: HostRuntime) -> Res
     let a: (&str, &[u8]) = ("a.txt", b"count\n");
     let b: (&str, &[u8]) = ("b.txt", b"count\n");
     let c: (&str, &[u8]) = ("c.txt", long.as_slice());
-    let cases: [(&[(&str, &[u8])], &[u64], &[&str], u8, &str); 5] = [
+    let cases: [(&[(&str, &[u8])], &[u64], &[&str], u8, &str); 6] = [
         (
             &[a, b],
             &[1],
@@ -157,6 +157,13 @@ fn the_first_file_that_gives_nothing_is_told_by_its_name(rt: HostRuntime) -> Res
             &["run", "d.txt", "c.txt", "b.txt"],
             3,
             "fault 3 missing d.txt\n",
+        ),
+        (
+            &[a, b],
+            &[1],
+            &["run", "a.txt", "b.txt", "a.txt"],
+            4,
+            "fault 4 read b.txt\n",
         ),
     ];
     for (files, fail, words, want, line) in cases {
@@ -212,19 +219,32 @@ impl Gate for Meeting {
     }
 }
 
+// How a run of these files ends under this gate, and what the sink has taken.
+fn run_under<G: Gate, R: Threads + Wait + Sync + AllocGlobal>(
+    rt: &R,
+    gate: &G,
+    files: &[(&str, &[u8])],
+) -> Result<(u8, String), Fail> {
+    let alloc = rt.alloc();
+    let mut words = words_of(alloc, &["run"])?;
+    for file in files {
+        words.push(file.0)?;
+    }
+    let mut shelf = files_of(alloc, files, &[])?;
+    let mut sink = sink_of(alloc, ROOM, usize::MAX)?;
+    let mut seals = no_seals();
+    let status = top(rt, alloc, &words, &mut shelf, &mut sink, gate, &mut seals);
+    Ok((status, taken_text(alloc, &sink)?))
+}
+
 // Whether two sessions came to their first calls while the other was held there.
 fn two_meet<R: Threads + Wait + Sync + AllocGlobal>(rt: &R) -> Result<bool, Fail> {
-    let alloc = rt.alloc();
     let gate = Meeting {
         came: [AtomicBool::new(false), AtomicBool::new(false)],
         met: [AtomicBool::new(false), AtomicBool::new(false)],
     };
     let text: &[u8] = b"count\ncount\n";
-    let mut shelf = files_of(alloc, &[("a.txt", text), ("b.txt", text)], &[])?;
-    let mut sink = sink_of(alloc, ROOM, usize::MAX)?;
-    let words = words_of(alloc, &["run", "a.txt", "b.txt"])?;
-    let mut seals = no_seals();
-    let status = top(rt, alloc, &words, &mut shelf, &mut sink, &gate, &mut seals);
+    let (status, _) = run_under(rt, &gate, &[("a.txt", text), ("b.txt", text)])?;
     Ok(status == 0 && gate.met[0].load(Ordering::SeqCst) && gate.met[1].load(Ordering::SeqCst))
 }
 
@@ -232,6 +252,118 @@ fn two_meet<R: Threads + Wait + Sync + AllocGlobal>(rt: &R) -> Result<bool, Fail
 fn two_sessions_run_beside_each_other_a_hundred_times(rt: HostRuntime) -> Result<(), Fail> {
     for _ in 0..100 {
         assert!(rt; two_meet(&rt)?);
+    }
+    Ok(())
+}
+
+// Counts the calls of two sessions, and notes where a call hasn't the number of those before it.
+#[derive(Drop)]
+struct Counting {
+    calls: [AtomicU32; 2],
+    astray: AtomicBool,
+}
+
+impl Gate for Counting {
+    fn turn<R: Wait>(&self, _rt: &R, session: u32, call: u32) {
+        if session > 1 || self.calls[session as usize].fetch_add(1, Ordering::SeqCst) != call {
+            self.astray.store(true, Ordering::SeqCst);
+        }
+    }
+}
+
+#[test]
+fn a_gate_is_asked_once_before_each_call_with_its_number(rt: HostRuntime) -> Result<(), Fail> {
+    let gate = Counting {
+        calls: [AtomicU32::new(0), AtomicU32::new(0)],
+        astray: AtomicBool::new(false),
+    };
+    let files: [(&str, &[u8]); 2] = [
+        ("a.txt", b"count\nbad\ncount\ncount\n"),
+        ("b.txt", b"count\n"),
+    ];
+    assert_eq!(rt; run_under(&rt, &gate, &files)?.0, 0);
+    assert!(rt; !gate.astray.load(Ordering::SeqCst));
+    assert_eq!(rt; gate.calls[0].load(Ordering::SeqCst), 3);
+    assert_eq!(rt; gate.calls[1].load(Ordering::SeqCst), 1);
+    Ok(())
+}
+
+// Holds the first call of each session until all have come, or for a while.
+#[derive(Drop)]
+struct Gathering {
+    sessions: u32,
+    came: AtomicU32,
+    met: AtomicU32,
+}
+
+impl Gate for Gathering {
+    fn turn<R: Wait>(&self, _rt: &R, _session: u32, call: u32) {
+        if call > 0 {
+            return;
+        }
+        let _ = self.came.fetch_add(1, Ordering::SeqCst);
+        for _ in 0..100_000_000u32 {
+            if self.came.load(Ordering::SeqCst) >= self.sessions {
+                let _ = self.met.fetch_add(1, Ordering::SeqCst);
+                return;
+            }
+            thread::yield_now();
+        }
+    }
+}
+
+#[test]
+fn sixteen_sessions_are_all_under_way_at_once(rt: HostRuntime) -> Result<(), Fail> {
+    let gate = Gathering {
+        sessions: 16,
+        came: AtomicU32::new(0),
+        met: AtomicU32::new(0),
+    };
+    let text: &[u8] = b"count\ncount\n";
+    assert_eq!(rt; run_under(&rt, &gate, &[("a.txt", text); 16])?.0, 0);
+    assert_eq!(rt; gate.met.load(Ordering::SeqCst), 16);
+    Ok(())
+}
+
+// Holds session 1 before its first call until session 0 has come to its second, or for a while.
+#[derive(Drop)]
+struct Second {
+    first_made: AtomicBool,
+}
+
+impl Gate for Second {
+    fn turn<R: Wait>(&self, _rt: &R, session: u32, call: u32) {
+        if session == 0 && call == 1 {
+            self.first_made.store(true, Ordering::SeqCst);
+        }
+        if session != 1 || call > 0 {
+            return;
+        }
+        for _ in 0..100_000_000u32 {
+            if self.first_made.load(Ordering::SeqCst) {
+                return;
+            }
+            thread::yield_now();
+        }
+    }
+}
+
+// What a run has written whose second session was held until the first had made its first call.
+fn run_held<R: Threads + Wait + Sync + AllocGlobal>(rt: &R) -> Result<String, Fail> {
+    let gate = Second {
+        first_made: AtomicBool::new(false),
+    };
+    let text: &[u8] = b"declare ISCC:AAAQAAAAAAAAAAAA\ncount\n";
+    let (_, output) = run_under(rt, &gate, &[("a.txt", text); 2])?;
+    Ok(output)
+}
+
+#[test]
+fn a_session_is_held_before_its_first_call(rt: HostRuntime) -> Result<(), Fail> {
+    for _ in 0..20 {
+        let output = run_held(&rt)?;
+        assert!(rt; output.as_str().starts_with("replies 0 0\nid 0\ncount "));
+        assert!(rt; output.as_str().contains("\nreplies 0 1\nid 1\ncount 2\n"));
     }
     Ok(())
 }
