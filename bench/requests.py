@@ -3,6 +3,9 @@
     python3 bench/requests.py PROGRAM small 1000    1,000 runs of 4 to 16 files of 50 lines: checked, and replies against rows
     python3 bench/requests.py PROGRAM large         one run of 16 files of 30,000 lines, in the same way
     python3 bench/requests.py PROGRAM many          times of `declare` and of `near` with 1, 2, 4 and 16 sessions
+    python3 bench/requests.py PROGRAM rounds 1000   1,000 runs of 1 to 8 rounds with sizes of each: in the same way, or the line of a refusal
+    python3 bench/requests.py PROGRAM growth        8 rounds of one file, each with twice the entries of the one before, all filled
+    python3 bench/requests.py PROGRAM full          8 rounds of 16 files of 30,000 lines
 
 The files and the output are left in the folder that it is run in.
 """
@@ -46,39 +49,49 @@ def write(name, lines):
     return name
 
 
-def replies_are_rows(output, sessions):
-    """Whether the reply lines of each session are the replies of its rows, in order."""
+def replies_are_rows(output, rounds):
+    """Whether the reply lines of each session are the replies of its rows, in order; of each round its number of sessions."""
     head, history = output.decode().split("iscc-history 1\n", 1)
-    parts = head.split("replies 0 ")[1:]
-    rows = [[] for _ in range(sessions)]
+    rows, at = [[[] for _ in range(sessions)] for sessions in rounds], -1
     for row in history.split("\n"):
-        if " = " in row:
+        if row.startswith("round "):
+            at += 1
+        elif " = " in row:
             place, reply = row.split(" = ", 1)
             session, number = place.split(" ", 1)[0].split(".")
-            rows[int(session)].append((int(number), reply))
-    told = [[x for x in part.split("\n")[1:-1] if not x.startswith("bad ")] for part in parts]
-    return told == [[reply for _, reply in sorted(each)] for each in rows]
+            rows[at][int(session)].append((int(number), reply))
+    told = {}
+    for part in head.split("replies ")[1:]:
+        place, *lines = part.split("\n")[:-1]
+        told[place] = [x for x in lines if not x.startswith("bad ")]
+    want = {f"{r} {s}": [reply for _, reply in sorted(rows[r][s])] for r in range(len(rounds)) for s in range(rounds[r])}
+    return told == want
 
 
-def run(program, names):
+def run(program, words, status=0):
     """The output of a run, which is left in output.txt, and its time in seconds."""
     with open("output.txt", "wb") as file:
         begin = time.time()
-        done = subprocess.run([program, "run", *names], stdout=file)
+        done = subprocess.run([program, "run", *words], stdout=file)
         seconds = time.time() - begin
     with open("output.txt", "rb") as file:
         output = file.read()
-    assert done.returncode == 0, output[:200]
+    assert done.returncode in (0, status), output[:200]
     return output, seconds
 
 
-def checked(program, names):
-    """The output of a run which `check` accepts, and whose replies are those of its rows."""
-    output, seconds = run(program, names)
+def accepted(program, output, rounds):
+    """What `check` says of an output that it accepts, and whose replies are those of its rows."""
     check = subprocess.run([program, "check", "output.txt"], capture_output=True)
     assert check.returncode == 0, check.stdout
-    assert replies_are_rows(output, len(names))
-    return output, seconds, check.stdout.decode().strip()
+    assert replies_are_rows(output, rounds)
+    return check.stdout.decode().strip()
+
+
+def checked(program, names):
+    """The output of a run of one round, its time, and what `check` says of it."""
+    output, seconds = run(program, names)
+    return output, seconds, accepted(program, output, [len(names)])
 
 
 def small(program, count):
@@ -115,9 +128,50 @@ def many(program):
             print(f"{form}, {sessions} sessions: {min(run(program, names)[1] for _ in range(3)):.2f} s")
 
 
+def rounds(program, count):
+    rng, served, refused = random.Random(10), 0, 0
+    for _ in range(count):
+        units, words, sessions = [unit(rng) for _ in range(6)], ["--entries", str(rng.randrange(1, 20)), f"--log={rng.randrange(1, 80)}"], []
+        for r in range(rng.randrange(1, 9)):
+            if r > 0:
+                words.append(rng.choice(["/", f"/{rng.randrange(1, 20)}:{rng.randrange(1, 80)}"]))
+            sessions.append(rng.randrange(1, 5))
+            words += [write(f"r{r}s{s}.txt", [line(rng, units) for _ in range(30)]) for s in range(sessions[-1])]
+        output = run(program, words, 8)[0]
+        if output.startswith(b"fault 8 "):
+            parts = output.decode().split()
+            assert int(parts[5]) > int(parts[7]), output
+            refused += 1
+        else:
+            accepted(program, output, sessions)
+            served += 1
+    print(f"{count} runs: {served} served, {refused} refused for a round that is too small")
+
+
+def growth(program):
+    rng, words, entries = random.Random(11), ["--entries", "8192", "--log", "8192"], 8192
+    for r in range(8):
+        fresh = 8192 if r == 0 else entries // 2
+        if r > 0:
+            words.append(f"/{entries}:{fresh}")
+        words.append(write(f"s{r}.txt", ["declare " + unit(rng) for _ in range(fresh)]))
+        entries *= 2
+    output, seconds = run(program, words)
+    print(f"{seconds:.2f} s, {len(output)} bytes, {accepted(program, output, [1] * 8)}")
+
+
+def full(program):
+    rng = random.Random(12)
+    units, words = [unit(rng) for _ in range(2000)], []
+    for r in range(8):
+        words += ["/"] * (r > 0) + [write(f"r{r}s{s}.txt", [line(rng, units) for _ in range(30000)]) for s in range(16)]
+    output, seconds = run(program, words)
+    print(f"{seconds:.2f} s, {len(output)} bytes, {accepted(program, output, [16] * 8)}")
+
+
 if __name__ == "__main__":
     program, what = sys.argv[1], sys.argv[2]
-    if what == "small":
-        small(program, int(sys.argv[3]))
+    if what in ("small", "rounds"):
+        {"small": small, "rounds": rounds}[what](program, int(sys.argv[3]))
     else:
-        {"large": large, "many": many}[what](program)
+        {"large": large, "many": many, "growth": growth, "full": full}[what](program)

@@ -1,5 +1,5 @@
 -- The rows of a lawful round hold values of the program's types, where its calls do and what is carried into it does.
-use Rattle.std.proofs.Common.{ℕ, ◌+◌, ◌^◌, ◌<◌, ◌≤◌, Bool, true, false, cond, List, [], ◌∷◌, ◌++◌, map, length, filter, Option, Some, None, sym, ap, subst, arith, lit≤, length-append}
+use Rattle.std.proofs.Common.{ℕ, ◌+◌, ◌^◌, ◌<◌, ◌≤◌, Bool, true, false, cond, List, [], ◌∷◌, ◌++◌, map, length, filter, Option, Some, None, sym, ap, subst, arith, lit≤, length-append, append-nil, append_assoc}
 use Rattle.std.specs.Prelude.{All, IfSome, find, not, ◌==◌, nat_le, if◌then◌else◌}
 use Rattle.std.specs.List.{AllByRecursion, zip}
 use Rattle.std.specs.Option.{option_to_list}
@@ -27,7 +27,8 @@ use Rattle.reg_model.specs.Opening.{Opening}
 use Rattle.reg_model.specs.Live.{declared_from, declared, is_withdrawn, live, live_at, is_declaration}
 use Rattle.reg_model.specs.Replies.{is_near, hit_of, AreHits, shown, Replies}
 use Rattle.reg_model.specs.Rows.{update_of, log_of, MayFollow, EachAfter}
-use Rattle.reg_model.specs.Runs.{RoundRows, IsLawfulRound}
+use Rattle.reg_model.specs.Runs.{RoundRows, IsLawfulRound, next_opening}
+use Rattle.reg_model.proofs.LawfulRounds.{log_fits}
 use Rattle.reg_model.proofs.RowSteps.{log_of-push}
 use Rattle.reg_model.specs.Calls.{IsRequest}
 use Rattle.reg_history.specs.lines.Values.{IsDeclaredValue, IsHitValue, IsReplyValue, IsRowValue}
@@ -126,6 +127,13 @@ update_value (calls.Declare unit) (replies.Id id) value = (value, tt)
 update_value (calls.Withdraw id) (replies.Withdrawn other) value = (tt, tt)
 update_value call reply value = tt
 
+-- the updates with that of one row more
+units_more : (before : List Row) (row : Row) → All IsUpdateValue (log_of before) → IsRequest row.call → All IsUpdateValue (log_of (before ++ row ∷ []))
+units_more before row units value =
+    subst (All IsUpdateValue) (sym (log_of-push before row))
+    (All-append IsUpdateValue (log_of before) (option_to_list (update_of row.call row.reply)) units
+    (All-from_recursion IsUpdateValue (option_to_list (update_of row.call row.reply)) (update_value row.call row.reply value)))
+
 -- a round whose numbers are in range, but for its rows
 record IsRoundValue (limits : Limits) (opening : Opening) : Type 0 where
   pub callers : limits.callers ≤ 2 ^ 32
@@ -152,10 +160,7 @@ rows_values : (limits : Limits) (opening : Opening) (before rows : List Row) →
     → AllByRecursion IsRequest (map (λ (row : Row). row.call) rows) → EachAfter (MayFollow limits opening) before rows → AllByRecursion IsRowValue rows
 rows_values limits opening before [] round units low values each = tt
 rows_values limits opening before (row ∷ rows) round units low values each =
-    let more : All IsUpdateValue (log_of (before ++ row ∷ [])) =
-    subst (All IsUpdateValue) (sym (log_of-push before row))
-    (All-append IsUpdateValue (log_of before) (option_to_list (update_of row.call row.reply)) units
-    (All-from_recursion IsUpdateValue (option_to_list (update_of row.call row.reply)) (update_value row.call row.reply values.0))) in (
+    let more = units_more before row units values.0 in (
       row_value limits opening before row round units (omega (arith, low)) values.0 each.0,
       rows_values limits opening (before ++ row ∷ []) rows round more (omega (arith, low, length_push before row)) values.1 each.1,
     )
@@ -168,3 +173,19 @@ round_values opening round lawful carried values low =
     let known : IsRoundValue round.limits opening = record { callers = omega (arith, sizes.callers); ids = omega (arith, lawful.ids); few = omega (arith, lawful.room, sizes.entries); carried = carried } in
     All-from_recursion IsRowValue round.rows
     (rows_values round.limits opening [] round.rows known (All-nil IsUpdateValue) (omega (arith, low)) (recursion_from_All IsRequest (map (λ (row : Row). row.call) round.rows) values) lawful.rows)
+
+-- ---- what it leaves
+
+log_values : (before rows : List Row) → All IsUpdateValue (log_of before) → AllByRecursion IsRequest (map (λ (row : Row). row.call) rows) → All IsUpdateValue (log_of (before ++ rows))
+log_values before [] units values = subst (λ all. All IsUpdateValue (log_of all)) (sym (append-nil before)) units
+log_values before (row ∷ rows) units values =
+    subst (λ all. All IsUpdateValue (log_of all)) (append_assoc before (row ∷ []) rows)
+    (log_values (before ++ row ∷ []) rows (units_more before row units values.0) values.1)
+
+-- the declarations that it leaves are of the program's types too
+pub next_values : (opening : Opening) (round : RoundRows) → IsLawfulRound opening round → All IsDeclaredValue opening.list → All IsRequest (map (λ (row : Row). row.call) round.rows)
+    → All IsDeclaredValue (next_opening opening round.rows).list
+next_values opening round lawful carried values =
+    let fits = log_fits round.limits opening [] round.rows lawful.rows (omega arith) in
+    live_values opening (log_of round.rows) (omega (arith, lawful.ids, fits)) carried
+    (log_values [] round.rows (All-nil IsUpdateValue) (recursion_from_All IsRequest (map (λ (row : Row). row.call) round.rows) values))

@@ -1,7 +1,7 @@
 -- From the end of a command to its status, and to what each status says.
-use Rattle.std.proofs.Common.{ap, ◌≡◌, ◌⊎◌, inl, inr, ℕ, ◌<◌, ◌≤◌, suc, List, [], ◌∷◌, ◌++◌, length, Option, Some, None, refl, sym, ◌∙◌, subst, arith, lit<}
+use Rattle.std.proofs.Common.{ap, ◌≡◌, ◌⊎◌, inl, inr, ℕ, ◌<◌, ◌≤◌, suc, List, [], ◌∷◌, ◌++◌, length, Option, Some, None, refl, sym, ◌∙◌, subst, arith, lit<, lit≤}
 use Rattle.std.specs.Prelude.{IfSome, IsSomeAnd, Contains, All}
-use Rattle.reg_model.specs.Runs.{RoundRows}
+use Rattle.reg_model.specs.Runs.{RoundRows, nothing}
 use Rattle.reg_model.proofs.RowSteps.{IfSome-weaker}
 use Rattle.reg_session.specs.declared.shelf.FetchFault.{FetchFault}
 use Rattle.reg_session.specs.declared.shelf.FetchFault.TheVariants as faults
@@ -13,11 +13,16 @@ use Rattle.reg_top.specs.declared.ending.Ending.TheVariants as endings
 use Rattle.reg_top.specs.declared.refusal.Refusal.{Refusal}
 use Rattle.reg_top.specs.declared.refusal.Refusal.TheVariants as refusals
 use Rattle.reg_top.specs.Fetches.{Command, Fetch, fetches}
+use Rattle.reg_top.specs.Fetches.Command.{Run, Explain, Compose, Instance, Check}
+use Rattle.reg_top.specs.commands.Compose.{RefusesTexts}
+use Rattle.reg_top.specs.commands.Check.{RefusesHistory}
+use Rattle.reg_top.specs.Dispatch.{Refuses}
 use Rattle.reg_top.specs.Words.{IsForm}
 use Rattle.reg_top.specs.FaultLines.{words_line, missing_line, long_line, memory_line, refusal_number}
-use Rattle.reg_top.specs.Outcomes.{GivenBy, IsHeld, IsMissing, IsTooLong, IsReached, IsGiven, HasNoForm, IsFileStatus, EndsWith, statuses, IsOutcome}
-use Rattle.reg_top.specs.inner.Endings.{ending_number, unread_number, UnreadWhy, GivesNone, EndsDone, EndsUnwritten, EndsRefused, Ends}
+use Rattle.reg_top.specs.Outcomes.{GivenBy, IsHeld, IsMissing, IsTooLong, IsReached, IsGiven, HasNoForm, IsFileStatus, EndsWith, statuses, IsServedStatus, IsOutcome}
+use Rattle.reg_top.specs.inner.Endings.{ending_number, unread_number, UnreadWhy, GivesNone, EndsDone, EndsUnwritten, EndsRefused, Ends, IsServedEnding}
 use Rattle.reg_top.proofs.Forms.{one_form}
+use Rattle.reg_top.proofs.RoundRefusals.{one_round_refused}
 
 -- ---- counts of faults
 
@@ -84,11 +89,11 @@ given_weaker [] files P Q f given = f (λ name. None) given
 given_weaker (x ∷ list) files P Q f given = IfSome-weaker P Q f files given
 
 -- P and Q of the same files, which are known
-given_both : (list : List Fetch) (files : Option Files) (P Q R : Files → Type 0) → (list ≡ []) ⊎ IsSomeAnd files R
-    → GivenBy list files P → GivenBy list files Q → ((map : Files) → P map → Q map → ⊥) → ⊥
-given_both [] files P Q R known p q clash = clash (λ name. None) p q
-given_both (x ∷ list) None P Q R known p q clash = elim known [ inl none ↦ cc | inr some ↦ some ]
-given_both (x ∷ list) (Some map) P Q R known p q clash = clash map p q
+given_both : (list : List Fetch) (files : Option Files) (P Q R : Files → Type 0) (X : Type 0) → (list ≡ []) ⊎ IsSomeAnd files R
+    → GivenBy list files P → GivenBy list files Q → ((map : Files) → P map → Q map → X) → X
+given_both [] files P Q R X known p q both = both (λ name. None) p q
+given_both (x ∷ list) None P Q R X known p q both = absurd (elim known [ inl none ↦ cc | inr some ↦ some ])
+given_both (x ∷ list) (Some map) P Q R X known p q both = both map p q
 
 known_of : (command : Command) (before after : Outside) → IsGiven command before after
     → (fetches command ≡ []) ⊎ IsSomeAnd before.shelf.files (λ files. All (IsHeld files) (fetches command))
@@ -156,7 +161,7 @@ done_with command before after served ends = record {
   failed = λ less. absurd (not_less before.shelf.faults after.shelf.faults ends.fetched.quiet less);
   refused = λ number. absurd (omega (arith, number.0));
   refuses = λ refusal given why. absurd (
-      given_both (fetches command) before.shelf.files _ _ _ (known_of command before after given) ends.made why (λ files made refuses. made.unrefused refusal refuses)
+      given_both (fetches command) before.shelf.files _ _ _ ⊥ (known_of command before after given) ends.made why (λ files made refuses. made.unrefused refusal refuses)
       );
   unwritten = λ is. absurd (omega (arith, is));
   memory = λ is. absurd (omega (arith, is));
@@ -172,7 +177,7 @@ unwritten_with command before after served ends = record {
   failed = λ less. absurd (not_less before.shelf.faults after.shelf.faults ends.fetched.quiet less);
   refused = λ number. absurd (omega (arith, number.0));
   refuses = λ refusal given why. absurd (
-      given_both (fetches command) before.shelf.files _ _ _ (known_of command before after given) ends.made why (λ files made refuses. made.unrefused refusal refuses)
+      given_both (fetches command) before.shelf.files _ _ _ ⊥ (known_of command before after given) ends.made why (λ files made refuses. made.unrefused refusal refuses)
       );
   unwritten = λ _. (ends.rose, given_weaker (fetches command) before.shelf.files _ _ (λ files made. (ends.output, made.is, ends.takes)) ends.made);
   memory = λ is. absurd (omega (arith, is));
@@ -193,28 +198,51 @@ short_with command before after served told = record {
   complete = λ given quiet none. inr refl;
 }
 
--- all refusals have the number 10
-is_ten : (refusal : Refusal) → refusal_number refusal ≡ 10
-is_ten (refusals.Text fault) = refl
-is_ten (refusals.Word at why) = refl
-is_ten (refusals.Units fault) = refl
-is_ten refusals.NoHistory = refl
-is_ten (refusals.Line fault) = refl
+-- ---- refusals
+
+-- each has a number from 8 to 12
+is_high : (refusal : Refusal) → (8 ≤ refusal_number refusal) × (refusal_number refusal ≤ 12)
+is_high (refusals.Text fault) = (lit≤ tt, lit≤ tt)
+is_high (refusals.Word at why) = (lit≤ tt, lit≤ tt)
+is_high (refusals.Units fault) = (lit≤ tt, lit≤ tt)
+is_high refusals.NoHistory = (lit≤ tt, lit≤ tt)
+is_high (refusals.Line fault) = (lit≤ tt, lit≤ tt)
+is_high (refusals.TooSmall round live entries) = (lit≤ tt, lit≤ tt)
+is_high (refusals.IdsSpent round base log) = (lit≤ tt, lit≤ tt)
+
+-- texts and histories are refused with the number 10
+texts_number : (texts : List (List ℕ)) (refusal : Refusal) → RefusesTexts texts refusal → refusal_number refusal ≡ 10
+texts_number texts refusal refuses = elim refuses [ inl word ↦ ap refusal_number word.is | inr units ↦ ap refusal_number units.is ]
+
+history_number : (name : List ℕ) (files : Files) (refusal : Refusal) → RefusesHistory name files refusal → refusal_number refusal ≡ 10
+history_number name files refusal refuses = elim refuses [ inl none ↦ ap refusal_number none.is | inr faulty ↦ ap refusal_number faulty.is ]
+
+-- what a command refuses it refuses with one number
+one_number : (command : Command) (files : Files) (served : List RoundRows) (a b : Refusal) → Refuses command files served a → Refuses command files served b
+    → refusal_number a ≡ refusal_number b
+one_number (Run plan) files served a b one other = ap refusal_number (one_round_refused nothing plan served a b one.after other.after)
+one_number (Explain text) files served a b one other = ap refusal_number one.is ∙ sym (ap refusal_number other.is)
+one_number (Compose texts) files served a b one other = texts_number texts a one ∙ sym (texts_number texts b other)
+one_number (Instance name) files served a b one other = absurd one
+one_number (Check name) files served a b one other = history_number name files a one ∙ sym (history_number name files b other)
 
 refused_with : (command : Command) (before after : Outside) (served : List RoundRows) (refusal : Refusal) → EndsRefused command before after served refusal
     → EndsWith command before after served (refusal_number refusal)
 refused_with command before after served refusal ends =
-    let ten = is_ten refusal in
+    let high = is_high refusal in
     record {
-      done = λ is. absurd (omega (arith, ten, is));
-      missing = other_number command before after _ 3 IsMissing missing_line (λ is. omega (arith, ten, is)) missing_unheld ends.fetched.held;
-      too_long = other_number command before after _ 7 IsTooLong long_line (λ is. omega (arith, ten, is)) long_unheld ends.fetched.held;
-      read = λ is. absurd (omega (arith, ten, is));
+      done = λ is. absurd (omega (arith, high.0, is));
+      missing = other_number command before after _ 3 IsMissing missing_line (λ is. omega (arith, high.0, is)) missing_unheld ends.fetched.held;
+      too_long = other_number command before after _ 7 IsTooLong long_line (λ is. omega (arith, high.0, is)) long_unheld ends.fetched.held;
+      read = λ is. absurd (omega (arith, high.0, is));
       failed = λ less. absurd (not_less before.shelf.faults after.shelf.faults ends.fetched.quiet less);
-      refused = λ number. record { refusal = refusal; number = refl; why = ends.why; fetched = ends.fetched.held; quiet = ends.fetched.quiet; told = ends.told };
-      refuses = λ other given why. inl (ten ∙ sym (is_ten other));
-      unwritten = λ is. absurd (omega (arith, ten, is));
-      memory = λ is. absurd (omega (arith, ten, is));
+      refused = λ number. record { refusal = refusal; number = refl; why = ends.why; rounds = ends.rounds; fetched = ends.fetched.held; quiet = ends.fetched.quiet; told = ends.told };
+      refuses = λ other given why. inl (
+          given_both (fetches command) before.shelf.files _ _ _ _ (known_of command before after given) ends.why why
+          (λ files mine theirs. one_number command files served refusal other mine theirs)
+          );
+      unwritten = λ is. absurd (omega (arith, high.0, is));
+      memory = λ is. absurd (omega (arith, high.0, is));
       complete = λ given quiet none. absurd (none refusal ends.why);
     }
 
@@ -298,23 +326,34 @@ ends_with command before after served endings.NoMemory ends = short_with command
 
 -- ---- the outcome of a call
 
+-- each status is one of those there are
+known_refusal : (refusal : Refusal) → Contains statuses (refusal_number refusal)
+known_refusal (refusals.Text fault) = (8, lit< tt, refl)
+known_refusal (refusals.Word at why) = (8, lit< tt, refl)
+known_refusal (refusals.Units fault) = (8, lit< tt, refl)
+known_refusal refusals.NoHistory = (8, lit< tt, refl)
+known_refusal (refusals.Line fault) = (8, lit< tt, refl)
+known_refusal (refusals.TooSmall round live entries) = (7, lit< tt, refl)
+known_refusal (refusals.IdsSpent round base log) = (9, lit< tt, refl)
+
 is_known : (ending : Ending) → Contains statuses (ending_number ending)
 is_known endings.Done = (0, lit< tt, refl)
 is_known (endings.Unread faults.Missing) = (2, lit< tt, refl)
 is_known (endings.Unread faults.Failed) = (3, lit< tt, refl)
 is_known (endings.Unread faults.TooLong) = (6, lit< tt, refl)
 is_known (endings.Unread faults.NoMemory) = (5, lit< tt, refl)
-is_known (endings.Refused refusal) = subst (Contains statuses) (sym (is_ten refusal)) (7, lit< tt, refl)
+is_known (endings.Refused refusal) = known_refusal refusal
 is_known endings.Unwritten = (4, lit< tt, refl)
 is_known endings.NoMemory = (5, lit< tt, refl)
 
+-- and 2 is that of no ending
 not_words : (ending : Ending) → ending_number ending ≡ 2 → ⊥
 not_words endings.Done is = omega (arith, is)
 not_words (endings.Unread faults.Missing) is = omega (arith, is)
 not_words (endings.Unread faults.Failed) is = omega (arith, is)
 not_words (endings.Unread faults.TooLong) is = omega (arith, is)
 not_words (endings.Unread faults.NoMemory) is = omega (arith, is)
-not_words (endings.Refused refusal) is = omega (arith, is_ten refusal, is)
+not_words (endings.Refused refusal) is = let high = is_high refusal in omega (arith, high.0, is)
 not_words endings.Unwritten is = omega (arith, is)
 not_words endings.NoMemory is = omega (arith, is)
 
@@ -325,9 +364,24 @@ done_at_zero (endings.Unread faults.Missing) is = absurd (omega (arith, is))
 done_at_zero (endings.Unread faults.Failed) is = absurd (omega (arith, is))
 done_at_zero (endings.Unread faults.TooLong) is = absurd (omega (arith, is))
 done_at_zero (endings.Unread faults.NoMemory) is = absurd (omega (arith, is))
-done_at_zero (endings.Refused refusal) is = absurd (omega (arith, is_ten refusal, is))
+done_at_zero (endings.Refused refusal) is = let high = is_high refusal in absurd (omega (arith, high.0, is))
 done_at_zero endings.Unwritten is = absurd (omega (arith, is))
 done_at_zero endings.NoMemory is = absurd (omega (arith, is))
+
+-- a number from 8 to 12, or 0, is that of no other ending
+unserved : (number : ℕ) → 1 ≤ number → number ≤ 7 → IsServedStatus number → ⊥
+unserved number some few served = elim served [ inl zero ↦ omega (arith, zero, some) | inr high ↦ omega (arith, high.0, few) ]
+
+-- a served status is that of a command that is done, or that refuses
+pub served_at : (ending : Ending) → IsServedStatus (ending_number ending) → IsServedEnding ending
+served_at endings.Done is = tt
+served_at (endings.Unread faults.Missing) is = unserved 3 (lit≤ tt) (lit≤ tt) is
+served_at (endings.Unread faults.Failed) is = unserved 4 (lit≤ tt) (lit≤ tt) is
+served_at (endings.Unread faults.TooLong) is = unserved 7 (lit≤ tt) (lit≤ tt) is
+served_at (endings.Unread faults.NoMemory) is = unserved 6 (lit≤ tt) (lit≤ tt) is
+served_at (endings.Refused refusal) is = tt
+served_at endings.Unwritten is = unserved 5 (lit≤ tt) (lit≤ tt) is
+served_at endings.NoMemory is = unserved 6 (lit≤ tt) (lit≤ tt) is
 
 -- of words that are of a form
 pub command_outcome : (words : List (List ℕ)) (command : Command) (before after : Outside) (served : List RoundRows) (ending : Ending) → IsForm words command

@@ -1,9 +1,8 @@
 -- Runs whose rounds have one session each.
-use Rattle.std.proofs.Common.{◌≡◌, ℕ, ◌^◌, ◌≤◌, true, List, [], ◌∷◌, ◌++◌, map, length, drop, refl, sym, ◌∙◌, ap, ap₂, subst, arith}
+use Rattle.std.proofs.Common.{◌≡◌, ℕ, ◌≤◌, true, List, [], ◌∷◌, ◌++◌, map, length, drop, refl, sym, ◌∙◌, ap, ap₂, subst, arith}
 use Rattle.std.specs.Prelude.{All, ◌==◌, Option, Some, IfSome}
 use Rattle.std.specs.List.{AllZip, AllByRecursion}
 use Rattle.std.proofs.lemmas.Option.{same_Some}
-use Rattle.std.proofs.lemmas.List.{length-map}
 use Rattle.std.proofs.lemmas.List.Elements.{recursion_from_All}
 use Rattle.reg_model.specs.declared.call.Call.{Call}
 use Rattle.reg_model.specs.declared.reply.Row.{Row}
@@ -19,11 +18,12 @@ use Rattle.reg_requests.proofs.FileItems.{one_list}
 use Rattle.reg_history.specs.History.{history_text}
 use Rattle.reg_session.specs.Files.{Files}
 use Rattle.reg_session.specs.Outside.{Outside, TakesWhole}
-use Rattle.reg_top.specs.Fetches.{RoundPlan, Fetch, fetch_of, fetches}
+use Rattle.reg_top.specs.Fetches.{RoundPlan, Fetch, fetches}
 use Rattle.reg_top.specs.Fetches.Command.{Run}
-use Rattle.reg_top.specs.Words.{IsForm, plan_of}
+use Rattle.reg_top.specs.Words.{IsForm}
 use Rattle.reg_top.specs.Outcomes.{GivenBy, Writes, TakesLoneOutput}
-use Rattle.reg_top.proofs.SessionFiles.{fetched_are}
+use Rattle.reg_top.proofs.PlannedRuns.{may_be_run}
+use Rattle.reg_top.proofs.RunFiles.{some_fetched}
 use Rattle.reg_top.proofs.Forms.{one_form}
 use Rattle.reg_top.specs.commands.Run.{IsRunOutput, reply_texts, MakesCalls, IsFileOf, AskLogFirst}
 use Rattle.reg_top.specs.Laws.{LoneWordsTellOutput}
@@ -149,12 +149,14 @@ rounds_same opening (l ∷ ls) (a ∷ xs) (b ∷ ys) one sizes lone made made' o
 lone_plans : (opening : Opening) (plan : List RoundPlan) (files : Files) (served other : List RoundRows) (output more : List ℕ)
     → All IsLone plan → IsRunOutput opening plan files served output → IsRunOutput opening plan files other more → (served ≡ other) × (output ≡ more)
 lone_plans opening plan files served other output more lone a b =
-    let items : a.items ≡ b.items = items_same plan files a.items b.items a.read b.read in
+    let x = a.made in
+    let y = b.made in
+    let items : x.items ≡ y.items = items_same plan files x.items y.items x.read y.read in
     let planned : AllByRecursion IsLone plan = recursion_from_All IsLone plan lone in
-    let ones : AllByRecursion HasOne a.items = each_one files plan a.items planned (recursion_from_All IsNamed plan a.callers) a.read in
+    let ones : AllByRecursion HasOne x.items = each_one files plan x.items planned (recursion_from_All IsNamed plan x.callers) x.read in
     let rounds : served ≡ other =
-    rounds_same opening a.items served other ones (sym a.sizes ∙ b.sizes) (lone_rounds plan served a.sizes planned) a.calls
-    (subst (λ is. AllZip MakesCalls is other) (sym items) b.calls) a.lawful.opens a.lawful.lawful b.lawful.lawful a.alone b.alone in
+    rounds_same opening x.items served other ones (sym x.sizes ∙ y.sizes) (lone_rounds plan served x.sizes planned) x.calls
+    (subst (λ is. AllZip MakesCalls is other) (sym items) y.calls) a.lawful.opens a.lawful.lawful b.lawful.lawful x.alone y.alone in
     (rounds, a.text ∙ ap₂ (λ is rs. reply_texts 0 is rs ++ history_text opening rs) items rounds ∙ sym b.text)
 
 same_plan : (words : List (List ℕ)) (plan again : List RoundPlan) → IsForm words (Run plan) → IsForm words (Run again) → again ≡ plan
@@ -171,17 +173,10 @@ given_some : (list : List Fetch) (told : Option Files) (files : Files) (P : File
 given_some [] told files P some held given = absurd (omega (arith, some))
 given_some (f ∷ list) told files P some held given = subst (λ o. IfSome o P) held given
 
-some_fetched : (words : List (List ℕ)) (plan : List RoundPlan) → IsForm words (Run plan) → 1 ≤ length (fetches (Run plan))
-some_fetched words plan form =
-    let names = form.0 in
-    let named = form.1 in
-    let many : length (fetches (Run (plan_of names))) ≡ length names = ap length (fetched_are names) ∙ length-map names (fetch_of (2 ^ 24)) in
-    subst (λ (p : List RoundPlan). 1 ≤ length (fetches (Run p))) (sym form.2) (omega (arith, many, named.some))
-
 pub lone_taken : (words : List (List ℕ)) (plan : List RoundPlan) (before after : Outside) (served : List RoundRows) → IsForm words (Run plan) → Writes (Run plan) before after served
     → TakesLoneOutput plan before after
 lone_taken words plan before after served form writes files other output lone held is =
     let wrote = given_some (fetches (Run plan)) before.shelf.files files (λ map. (text : List ℕ) × IsRunOutput nothing plan map served text × TakesWhole before.sink.taken after.sink.taken text)
-    (some_fetched words plan form) held writes in
+    (some_fetched plan (may_be_run words plan form)) held writes in
     let same = lone_runs words plan plan files nothing served other wrote.0 output form form lone wrote.1 is in
     subst (TakesWhole before.sink.taken after.sink.taken) same.1 wrote.2

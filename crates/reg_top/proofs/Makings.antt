@@ -30,6 +30,7 @@ use Rattle.reg_top.specs.commands.Check.{RefusesHistory, lawful_text}
 use Rattle.reg_top.specs.inner.Endings.{Makes, ExplainDeclines, ComposeDeclines, CheckDeclines, IsUnfaulty}
 use Rattle.reg_top.proofs.Compositions.{clash, read_or_refused, same_units}
 use Rattle.reg_top.proofs.SavedLines.{one_saved, saved_or_none}
+use Rattle.reg_top.proofs.RoundRefusals.{whole_unrefused}
 use Rattle.reg_top.proofs.Parts.{Declines}
 
 -- ---- texts
@@ -38,7 +39,7 @@ pub explain_makes : (text output : List ℕ) (files : Files) → IsExplanation t
 explain_makes text output files is = record { is = is; unrefused = λ refusal refuses. clash text is.iscc refuses.fault is.read refuses.has }
 
 pub explain_declines : (text : List ℕ) (before : Outside) (why : Declined) → ExplainDeclines text why → Declines (Explain text) before [] why
-explain_declines text before (declined.Refused refusal) is = is
+explain_declines text before (declined.Refused refusal) is = (is, tt)
 explain_declines text before declined.NoMemory is = tt
 
 unrefused_texts : (texts : List (List ℕ)) (output : List ℕ) (refusal : Refusal) → IsComposition texts output → RefusesTexts texts refusal → ⊥
@@ -53,13 +54,15 @@ pub compose_makes : (texts : List (List ℕ)) (output : List ℕ) (files : Files
 compose_makes texts output files is = record { is = is; unrefused = λ refusal refuses. unrefused_texts texts output refusal is refuses }
 
 pub compose_declines : (texts : List (List ℕ)) (before : Outside) (why : Declined) → ComposeDeclines texts why → Declines (Compose texts) before [] why
-compose_declines texts before (declined.Refused refusal) is = is
+compose_declines texts before (declined.Refused refusal) is = (is, tt)
 compose_declines texts before declined.NoMemory is = tt
 
 -- ---- files
 
 pub run_makes : (plan : List RoundPlan) (files : Files) (served : List RoundRows) (output : List ℕ) → IsRunOutput nothing plan files served output → Makes (Run plan) files served output
-run_makes plan files served output is = record { is = is; unrefused = λ refusal refuses. refuses }
+run_makes plan files served output is =
+    let made = is.made in
+    record { is = is; unrefused = λ refusal refuses. whole_unrefused nothing plan served made.sizes refusal refuses.after }
 
 pub instance_makes : (name bytes : List ℕ) (files : Files) → files name ≡ Some bytes → Makes (Instance name) files [] (line (unit_text (instance_of bytes)))
 instance_makes name bytes files held = record { is = record { bytes = bytes; held = held; printed = refl }; unrefused = λ refusal refuses. refuses }
@@ -104,5 +107,5 @@ refused_file name bytes files refusal held why =
 pub check_declines : (name bytes : List ℕ) (before : Outside) (why : Declined) → IfSome before.shelf.files (λ files. files name ≡ Some bytes) → CheckDeclines bytes why
     → Declines (Check name) before [] why
 check_declines name bytes before (declined.Refused refusal) held is =
-    IfSome-weaker _ _ (λ files at. refused_file name bytes files refusal at is) before.shelf.files held
+    (IfSome-weaker _ _ (λ files at. refused_file name bytes files refusal at is) before.shelf.files held, tt)
 check_declines name bytes before declined.NoMemory held is = tt

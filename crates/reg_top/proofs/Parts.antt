@@ -16,7 +16,7 @@ use Rattle.reg_top.specs.declared.ending.Ending.TheVariants as endings
 use Rattle.reg_top.specs.declared.ending.Declined.{Declined}
 use Rattle.reg_top.specs.declared.ending.Declined.TheVariants as declines
 use Rattle.reg_top.specs.Fetches.{Command, Fetch, fetches}
-use Rattle.reg_top.specs.Dispatch.{Refuses}
+use Rattle.reg_top.specs.Dispatch.{Refuses, RefusesServed}
 use Rattle.reg_top.specs.Outcomes.{GivenBy, IsHeld}
 use Rattle.reg_top.specs.inner.Endings.{unread_line, declined_ending, declined_line, UnreadWhy, Fetched, Makes, Ends}
 use Rattle.reg_top.proofs.Endings.{always}
@@ -61,12 +61,12 @@ unread_ends command before after served fetch fault one tells cause told = recor
 
 -- why what the command is given makes no output
 abbrev pub Declines : Command → Outside → List RoundRows → Declined → Type 0
-Declines command before served (declines.Refused refusal) = GivenBy (fetches command) before.shelf.files (λ files. Refuses command files served refusal)
+Declines command before served (declines.Refused refusal) = GivenBy (fetches command) before.shelf.files (λ files. Refuses command files served refusal) × RefusesServed command served refusal
 Declines command before served declines.NoMemory = Unit {0}
 
 pub declined_ends : (command : Command) (before after : Outside) (served : List RoundRows) (why : Declined) → Fetched command before after
     → Declines command before served why → Tells before.sink after.sink (declined_line why) → Ends command before after served (declined_ending why)
-declined_ends command before after served (declines.Refused refusal) fetched is told = record { fetched = fetched; why = is; told = told }
+declined_ends command before after served (declines.Refused refusal) fetched is told = record { fetched = fetched; why = is.0; rounds = is.1; told = told }
 declined_ends command before after served declines.NoMemory fetched is told = record { quiet = fetched.quiet; told = told }
 
 -- an output that is written

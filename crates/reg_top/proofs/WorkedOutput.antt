@@ -101,13 +101,15 @@ asks = All-from_recursion (AsksLogFirst usual nothing) two_units ((λ given full
 pub run_output : IsRunOutput nothing plan files (round ∷ []) output
 unfolding history_text unit_text bits_of digits
 run_output = record {
-  items = (wanted ∷ []) ∷ [];
-  callers = All-from_recursion (λ (p : RoundPlan). p.limits.callers ≡ length p.names) plan (refl, tt);
-  read = (((file, refl, file_items), tt), tt);
-  sizes = refl;
-  calls = (made, tt);
+  made = record {
+    items = (wanted ∷ []) ∷ [];
+    callers = All-from_recursion (λ (p : RoundPlan). p.limits.callers ≡ length p.names) plan (refl, tt);
+    read = (((file, refl, file_items), tt), tt);
+    sizes = refl;
+    calls = (made, tt);
+    alone = (λ _. asks, tt);
+    values = values;
+  };
   lawful = lawful;
-  alone = (λ _. asks, tt);
-  values = values;
   text = refl;
 }

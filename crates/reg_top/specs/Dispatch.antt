@@ -5,7 +5,7 @@ use Rattle.reg_session.specs.Files.{Files}
 use Rattle.reg_top.specs.declared.refusal.Refusal.{Refusal}
 use Rattle.reg_top.specs.Fetches.{Command}
 use Rattle.reg_top.specs.Fetches.Command.{Run, Explain, Compose, Instance, Check}
-use Rattle.reg_top.specs.commands.Run.{IsRunOutput}
+use Rattle.reg_top.specs.commands.Run.{IsRunOutput, RefusesAfter, RefusesRound}
 use Rattle.reg_top.specs.commands.Explain.{IsExplanation, RefusesText}
 use Rattle.reg_top.specs.commands.Compose.{IsComposition, RefusesTexts}
 use Rattle.reg_top.specs.commands.Instance.{IsInstanceLine}
@@ -19,10 +19,18 @@ IsOutput (Compose texts) files served output = IsComposition texts output
 IsOutput (Instance name) files served output = IsInstanceLine name files output
 IsOutput (Check name) files served output = IsLawfulLine name files output
 
--- the command refuses what it is given, and this is why
+-- the command refuses what it is given, or a round after those that it served, and this is why
 abbrev pub Refuses : Command → Files → List RoundRows → Refusal → Type 0
-Refuses (Run plan) files served refusal = ⊥
+Refuses (Run plan) files served refusal = RefusesRound nothing plan files served refusal
 Refuses (Explain text) files served refusal = RefusesText text refusal
 Refuses (Compose texts) files served refusal = RefusesTexts texts refusal
 Refuses (Instance name) files served refusal = ⊥
 Refuses (Check name) files served refusal = RefusesHistory name files refusal
+
+-- what is said of a refusal whatever the shelf tells
+abbrev pub RefusesServed : Command → List RoundRows → Refusal → Type 0
+RefusesServed (Run plan) served refusal = RefusesAfter nothing plan served refusal
+RefusesServed (Explain text) served refusal = Unit {0}
+RefusesServed (Compose texts) served refusal = Unit {0}
+RefusesServed (Instance name) served refusal = Unit {0}
+RefusesServed (Check name) served refusal = Unit {0}

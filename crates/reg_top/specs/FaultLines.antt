@@ -62,6 +62,8 @@ refusal_why (refusals.Word at why) = spaced (codes "word" ∷ decimal at ∷ wor
 refusal_why (refusals.Units fault) = spaced (codes "compose" ∷ compose_why fault ∷ [])
 refusal_why refusals.NoHistory = spaced (codes "line" ∷ codes "0" ∷ codes "none" ∷ [])
 refusal_why (refusals.Line fault) = spaced (codes "line" ∷ decimal fault.line ∷ line_why fault.why ∷ [])
+refusal_why (refusals.TooSmall round live entries) = spaced (codes "round" ∷ decimal round ∷ codes "live" ∷ decimal live ∷ codes "entries" ∷ decimal entries ∷ [])
+refusal_why (refusals.IdsSpent round base log) = spaced (codes "round" ∷ decimal round ∷ codes "base" ∷ decimal base ∷ codes "log" ∷ decimal log ∷ [])
 
 -- the status of a refusal
 abbrev pub refusal_number : Refusal → ℕ
@@ -70,6 +72,8 @@ refusal_number (refusals.Word at why) = 10
 refusal_number (refusals.Units fault) = 10
 refusal_number refusals.NoHistory = 10
 refusal_number (refusals.Line fault) = 10
+refusal_number (refusals.TooSmall round live entries) = 8
+refusal_number (refusals.IdsSpent round base log) = 11
 
 -- its line, with that number
 abbrev pub refusal_line : Refusal → List ℕ

@@ -8,7 +8,7 @@ use Rattle.reg_top.specs.declared.refusal.Refusal.{Refusal}
 use Rattle.reg_top.specs.Fetches.{RoundPlan, Command, Fetch, fetches}
 use Rattle.reg_top.specs.Words.{IsForm}
 use Rattle.reg_top.specs.commands.Run.{IsRunOutput}
-use Rattle.reg_top.specs.Dispatch.{IsOutput, Refuses}
+use Rattle.reg_top.specs.Dispatch.{IsOutput, Refuses, RefusesServed}
 use Rattle.reg_top.specs.FaultLines.{words_line, missing_line, read_line, long_line, memory_line, refusal_line, refusal_number}
 
 -- ---- what a command is given
@@ -90,6 +90,7 @@ pub record TellsRefusal (command : Command) (before after : Outside) (served : L
   pub refusal : Refusal
   pub number : status ≡ refusal_number refusal
   pub why : GivenBy (fetches command) before.shelf.files (λ files. Refuses command files served refusal)
+  pub rounds : RefusesServed command served refusal
   pub fetched : IfSome before.shelf.files (λ files. All (IsHeld files) (fetches command))
   pub quiet : after.shelf.faults ≡ before.shelf.faults
   pub told : Tells before.sink after.sink (refusal_line refusal)
@@ -97,6 +98,10 @@ pub record TellsRefusal (command : Command) (before after : Outside) (served : L
 -- the numbers of refusals
 abbrev pub IsRefusalNumber : ℕ → Type 0
 IsRefusalNumber status = (8 ≤ status) × (status ≤ 12)
+
+-- the statuses with which a run has served its rounds, or those before the one that it refuses
+abbrev pub IsServedStatus : ℕ → Type 0
+IsServedStatus status = (status ≡ 0) ⊎ IsRefusalNumber status
 
 -- How a command ends with a status, where it served these rounds: what is written, and the cause of each status.
 pub record EndsWith (command : Command) (before after : Outside) (served : List RoundRows) (status : ℕ) : Type 0 where
@@ -117,7 +122,7 @@ pub record EndsWith (command : Command) (before after : Outside) (served : List 
 
 -- the statuses there are
 abbrev pub statuses : List ℕ
-statuses = 0 ∷ 2 ∷ 3 ∷ 4 ∷ 5 ∷ 6 ∷ 7 ∷ 10 ∷ []
+statuses = 0 ∷ 2 ∷ 3 ∷ 4 ∷ 5 ∷ 6 ∷ 7 ∷ 8 ∷ 10 ∷ 11 ∷ []
 
 -- How a call with these words ends with a status, where it served these rounds.
 pub record IsOutcome (words : List (List ℕ)) (before after : Outside) (served : List RoundRows) (status : ℕ) : Type 0 where

@@ -1,37 +1,140 @@
 -- The words of a command line.
-use Rattle.std.specs.Prelude.{◌⊎◌, ◌≡◌, ◌≢◌, ℕ, ◌<◌, ◌≤◌, List, [], ◌∷◌, ◌++◌, length, codes, slice_get, All, Some}
+use Rattle.std.specs.Prelude.{◌⊎◌, ◌≡◌, ◌≢◌, ℕ, ◌<◌, ◌≤◌, Bool, true, false, List, [], ◌∷◌, ◌++◌, length, map, filter, codes, slice_get, All, Option, Some, None}
+use Rattle.std.specs.List.{filter_map, flat_map}
+use Rattle.std.specs.Str.Parse.{digits_value}
 use Rattle.reg_requests.specs.Numbers.{IsNumber}
-use Rattle.reg_model.specs.declared.sizes.TheConstants.{CALLERS_MOST}
-use Rattle.reg_model.specs.Limits.{usual_limits}
+use Rattle.reg_model.specs.declared.sizes.TheConstants.{ENTRIES_USUAL, LOG_USUAL, BITS_USUAL}
+use Rattle.reg_model.specs.declared.round.TheConstants.{ROUNDS_MOST}
+use Rattle.reg_model.specs.Limits.{IsInRange}
 use Rattle.reg_top.specs.Fetches.{RoundPlan, Command}
 use Rattle.reg_top.specs.Fetches.Command.{Run, Explain, Compose, Instance, Check}
 use Rattle.reg_top.specs.declared.words.SideWord.{SideWord}
 use Rattle.reg_top.specs.declared.words.SideWord.TheVariants as side
+use Rattle.reg_top.specs.declared.run_words.RunOption.{RunOption}
+use Rattle.reg_top.specs.declared.run_words.RunOption.TheVariants.{Entries, Log, Bits}
+use Rattle.reg_top.specs.declared.run_words.MarkSizes.{MarkSizes}
 
 -- a word that isn't empty and doesn't begin with `-`
 abbrev pub IsValue : List ℕ → Type 0
 IsValue [] = ⊥
 IsValue (first ∷ word) = first ≢ 45
 
--- two numbers with a colon between them
-abbrev pub AreSizes : List ℕ → Type 0
-AreSizes text = (entries log : List ℕ) × IsNumber entries × IsNumber log × (text ≡ entries ++ (codes ":" ++ log))
+-- ---- what stands behind `run`
 
--- The word ends a round: `/`, or `/` and the next round's entries and log.
-abbrev pub IsRoundMark : List ℕ → Type 0
-IsRoundMark word = (sizes : List ℕ) × (word ≡ codes "/" ++ sizes) × ((sizes ≡ []) ⊎ AreSizes sizes)
+-- an option with its number, a mark between two rounds with the sizes that it sets, if any, or the name of a file
+pub data Argument : Type 0 where
+  Set : RunOption → ℕ → Argument
+  Mark : Option MarkSizes → Argument
+  Name : List ℕ → Argument
+
+abbrev pub option_text : RunOption → List ℕ
+option_text Entries = codes "--entries"
+option_text Log = codes "--log"
+option_text Bits = codes "--bits"
+
+-- the text is that of a number, and this is its value
+pub record IsNumberOf (text : List ℕ) (number : ℕ) : Type 0 where
+  pub digits : IsNumber text
+  pub value : number ≡ digits_value 10 text
+
+-- the word is a mark: `/`, or `/` with entries and log behind it and a colon between them, as in `/4096:65536`
+abbrev pub IsMark : List ℕ → Option MarkSizes → Type 0
+IsMark word None = word ≡ codes "/"
+IsMark word (Some sizes) = (entries log : List ℕ) × IsNumberOf entries sizes.entries × IsNumberOf log sizes.log × (word ≡ codes "/" ++ (entries ++ (codes ":" ++ log)))
 
 -- a word that names a file
 pub record IsFileName (word : List ℕ) : Type 0 where
   pub value : IsValue word
-  pub no_mark : IsRoundMark word → ⊥
+  pub no_mark : (sizes : Option MarkSizes) → IsMark word sizes → ⊥
 
--- the words are `run` and the names of files, one to sixteen (`CALLERS_MOST`)
-pub record HasFiles (words names : List (List ℕ)) : Type 0 where
-  pub words_are : words ≡ codes "run" ∷ names
-  pub some : 1 ≤ length names
-  pub few : length names ≤ CALLERS_MOST
-  pub are_names : All IsFileName names
+-- these words say the argument; an option and its number are two words, or one with `=` between them
+abbrev pub Says : Argument → List (List ℕ) → Type 0
+Says (Set option number) words = (text : List ℕ) × IsNumberOf text number × ((words ≡ option_text option ∷ text ∷ []) ⊎ (words ≡ (option_text option ++ (codes "=" ++ text)) ∷ []))
+Says (Mark sizes) words = (word : List ℕ) × IsMark word sizes × (words ≡ word ∷ [])
+Says (Name name) words = IsFileName name × (words ≡ name ∷ [])
+
+-- the words say these arguments, one after the other
+abbrev pub AreSaid : List Argument → List (List ℕ) → Type 0
+AreSaid [] words = words ≡ []
+AreSaid (argument ∷ arguments) words = (first rest : List (List ℕ)) × Says argument first × AreSaid arguments rest × (words ≡ first ++ rest)
+
+-- ---- options
+
+-- the number that the argument sets for the option
+abbrev pub set_number : RunOption → Argument → Option ℕ
+set_number Entries (Set Entries number) = Some number
+set_number Entries (Set Log number) = None
+set_number Entries (Set Bits number) = None
+set_number Log (Set Entries number) = None
+set_number Log (Set Log number) = Some number
+set_number Log (Set Bits number) = None
+set_number Bits (Set Entries number) = None
+set_number Bits (Set Log number) = None
+set_number Bits (Set Bits number) = Some number
+set_number option (Mark sizes) = None
+set_number option (Name name) = None
+
+-- the numbers that are set for it
+abbrev pub set_numbers : RunOption → List Argument → List ℕ
+set_numbers option arguments = filter_map (set_number option) arguments
+
+-- the number that is set, or else the usual one
+abbrev pub first_or : ℕ → List ℕ → ℕ
+first_or usual [] = usual
+first_or usual (number ∷ more) = number
+
+-- ---- rounds
+
+-- a round as it is said: the sizes that the mark before it sets, if any, and the names of its files
+pub record MarkedRound : Type 0 where
+  pub sizes : Option MarkSizes
+  pub names : List (List ℕ)
+
+-- a mark or a name
+abbrev pub is_placed : Argument → Bool
+is_placed (Set option number) = false
+is_placed (Mark sizes) = true
+is_placed (Name name) = true
+
+-- the mark before a round, and its names
+abbrev pub round_arguments : MarkedRound → List Argument
+round_arguments round = Mark round.sizes ∷ map Name round.names
+
+-- the sizes of a round: those that the mark before it sets, or those of the round before
+abbrev pub sizes_from : MarkSizes → Option MarkSizes → MarkSizes
+sizes_from before None = before
+sizes_from before (Some sizes) = sizes
+
+abbrev pub round_plan : MarkSizes → ℕ → List (List ℕ) → RoundPlan
+round_plan sizes bits names = record { limits = record { entries = sizes.entries; log = sizes.log; bits = bits; callers = length names }; names = names }
+
+-- the rounds, where the round before them had these sizes
+abbrev pub planned : MarkSizes → ℕ → List MarkedRound → List RoundPlan
+planned before bits [] = []
+planned before bits (round ∷ rounds) = round_plan (sizes_from before round.sizes) bits round.names ∷ planned (sizes_from before round.sizes) bits rounds
+
+-- the entries and the log of the first round
+abbrev pub first_sizes : List Argument → MarkSizes
+first_sizes arguments = record { entries = first_or ENTRIES_USUAL (set_numbers Entries arguments); log = first_or LOG_USUAL (set_numbers Log arguments) }
+
+-- The words behind `run` ask for these rounds: each option stands once at most, anywhere; marks divide the names of the files
+-- into one to eight (`ROUNDS_MOST`) rounds of one to sixteen files; and all sizes are in range.
+pub record IsPlanOf (words : List (List ℕ)) (plan : List RoundPlan) : Type 0 where
+  pub arguments : List Argument
+  pub said : AreSaid arguments words
+  pub once : (option : RunOption) → length (set_numbers option arguments) ≤ 1
+  pub first : List (List ℕ)
+  pub next : List MarkedRound
+  pub placed : filter is_placed arguments ≡ map Name first ++ flat_map round_arguments next
+  pub are : plan ≡ planned (first_sizes arguments) (first_or BITS_USUAL (set_numbers Bits arguments)) (record { sizes = None; names = first } ∷ next)
+  pub few : length plan ≤ ROUNDS_MOST
+  pub in_range : All (λ (p : RoundPlan). IsInRange p.limits) plan
+
+-- ---- the commands
+
+-- the words are `run` and arguments that ask for these rounds
+abbrev pub IsRunForm : List (List ℕ) → List RoundPlan → Type 0
+IsRunForm words plan = (behind : List (List ℕ)) × (words ≡ codes "run" ∷ behind) × IsPlanOf behind plan
 
 -- the words are a command's first word and one value
 pub record HasOneValue (words : List (List ℕ)) (first value : List ℕ) : Type 0 where
@@ -44,13 +147,9 @@ pub record HasTexts (words texts : List (List ℕ)) : Type 0 where
   pub some : 0 < length texts
   pub are_values : All IsValue texts
 
--- one round, with a session for each file
-abbrev pub plan_of : List (List ℕ) → List RoundPlan
-plan_of names = record { limits = usual_limits (length names); names = names } ∷ []
-
 -- the words are of the form of a command
 abbrev pub IsForm : List (List ℕ) → Command → Type 0
-IsForm words (Run plan) = (names : List (List ℕ)) × HasFiles words names × (plan ≡ plan_of names)
+IsForm words (Run plan) = IsRunForm words plan
 IsForm words (Explain text) = HasOneValue words (codes "explain") text
 IsForm words (Compose texts) = HasTexts words texts
 IsForm words (Instance name) = HasOneValue words (codes "instance") name

@@ -1,3 +1,5 @@
 -- What only proofs and private contracts use.
 pub mod Endings
-pub mod OneRound
+pub mod RunPlans
+pub mod RunRounds
+pub mod RunWords

@@ -1,7 +1,8 @@
-ghost use Rattle.std.specs.Prelude.{◌≡◌, [], ◌∷◌, ◌++◌, codes};
+ghost use Rattle.std.specs.Prelude.{◌≡◌, [], ◌∷◌, ◌++◌, codes, IsErr, MatchResult};
 ghost use Rattle.std.specs.Fmt.{decimal};
 ghost use Rattle.reg_requests.specs.Lines.{line, spaced};
-ghost use Rattle.reg_session.specs.Outside.{Tells, sink_view};
+ghost use Rattle.reg_session.specs.Faults.{HasCause};
+ghost use Rattle.reg_session.specs.Outside.{TakesWhole, TakesPart, Tells, sink_view};
 ghost use Rattle.reg_top.specs.FaultLines.{words_line, refusal_line, text_why, word_why, iscc_why, compose_why, line_why};
 ghost use Rattle.reg_top.specs.inner.Endings.{unread_line, declined_line, declined_ending};
 
@@ -65,6 +66,12 @@ fn tell_refusal<K: Sink>(sink: &mut K, why: Refusal)
         Refusal::Units(fault) => tell(sink, b"fault 10 compose ", compose_fault(fault)),
         Refusal::NoHistory => tell(sink, b"fault 10 line 0 none", b""),
         Refusal::Line(fault) => tell_line(sink, fault),
+        Refusal::TooSmall {
+            round,
+            live,
+            entries,
+        } => tell_small(sink, round, live, entries),
+        Refusal::IdsSpent { round, base, log } => tell_spent(sink, round, base, log),
     }
 }
 
@@ -101,6 +108,34 @@ fn tell_line<K: Sink>(sink: &mut K, fault: CheckFault)
         return;
     }
     tell(sink, b" ", line_fault(fault.why));
+}
+
+fn tell_small<K: Sink>(sink: &mut K, round: u64, live: u64, entries: u32)
+    ensures { Tells (sink_view (K.taken sink.old) (K.faults sink.old)) (sink_view (K.taken sink.new) (K.faults sink.new))
+        (line (codes "fault 8 " ++ spaced (codes "round" ∷ decimal round ∷ codes "live" ∷ decimal live ∷ codes "entries" ∷ decimal entries ∷ []))) }
+{
+    if let Err(Failed) = write_number(sink, b"fault 8 round ", round) {
+        return;
+    }
+    if let Err(Failed) = write_number(sink, b" live ", live) {
+        return;
+    }
+    let mut buffer = Buffer::new();
+    tell(sink, b" entries ", buffer.format(entries).as_bytes());
+}
+
+fn tell_spent<K: Sink>(sink: &mut K, round: u64, base: u64, log: u32)
+    ensures { Tells (sink_view (K.taken sink.old) (K.faults sink.old)) (sink_view (K.taken sink.new) (K.faults sink.new))
+        (line (codes "fault 11 " ++ spaced (codes "round" ∷ decimal round ∷ codes "base" ∷ decimal base ∷ codes "log" ∷ decimal log ∷ []))) }
+{
+    if let Err(Failed) = write_number(sink, b"fault 11 round ", round) {
+        return;
+    }
+    if let Err(Failed) = write_number(sink, b" base ", base) {
+        return;
+    }
+    let mut buffer = Buffer::new();
+    tell(sink, b" log ", buffer.format(log).as_bytes());
 }
 
 // The end of a line, with a space and the fault of a word.
@@ -166,6 +201,17 @@ fn line_fault(why: CheckWhy) -> &'static [u8]
         CheckWhy::Reply => b"reply",
         CheckWhy::End => b"end",
     }
+}
+
+// Writes a text, and a number behind it.
+fn write_number<K: Sink>(sink: &mut K, front: &[u8], number: u64) -> Result<(), Failed>
+    ensures takes { MatchResult result
+        (λ _. TakesWhole (K.taken sink.old) (K.taken sink.new) (front.now ++ decimal number))
+        (λ _. TakesPart (K.taken sink.old) (K.taken sink.new) (front.now ++ decimal number)) }
+    ensures cause { HasCause (K.faults sink.old) (K.faults sink.new) (IsErr result) }
+{
+    let mut buffer = Buffer::new();
+    write_two(sink, front, buffer.format(number).as_bytes())
 }
 
 // Writes the rest of a line in two parts, as far as the sink takes it.

@@ -4,7 +4,7 @@
 //! It stands on `reg_session`, which has shelf and sink and serves sessions in threads, on `reg_turn`, the desk over which
 //! they are served, on `reg_requests` and `reg_history`, which read and print texts, on `reg_model`, and on the crates of
 //! ISCCs. `iscc_registry` calls `top` with the real shelf and sink, tests with those in memory.
-//! The way of a request: `words` (what is asked), `fetch` (a file's bytes), a file of `commands` (what is made of it; `run`
+//! The way of a request: `words` and `run_words` (what is asked), `fetch` (a file's bytes), a file of `commands` (what is made of it; `run`
 //! serves its sessions over the desk of `served`), `write` (bytes to the sink), `fault_line` (the line of a fault), `ending`
 //! (the status). `specs/Fetches.antt` says what each command fetches, a file of `specs/commands/` what it writes and refuses,
 //! and `specs/Outcomes.antt` how every call ends, and why.
@@ -18,6 +18,7 @@ mod fetch;
 mod laws;
 mod refusal;
 mod replies;
+mod run_words;
 mod saved_history;
 mod served;
 mod side_commands;
@@ -26,7 +27,7 @@ mod words;
 mod write;
 
 pub use args::Args;
-pub use laws::words_of_lone_sessions_have_one_output;
+pub use laws::{a_command_line_has_one_command, words_of_lone_sessions_have_one_output};
 pub use reg_session::{
     Failed, FetchFault, Gate, ListShelf, ListSink, NoGate, Seals, Shelf, Sink, SureShelf, SureSink,
 };

@@ -27,6 +27,10 @@ pub enum Refusal {
     NoHistory,
     /// This line of the history in the file, counted from 1, is the first that can't stand.
     Line(CheckFault),
+    /// More declarations are live than the round with this number has entries.
+    TooSmall { round: u64, live: u64, entries: u32 },
+    /// The last id of the round with this number would be 2^34 or more.
+    IdsSpent { round: u64, base: u64, log: u32 },
 }
 
 impl Refusal {
@@ -40,6 +44,8 @@ impl Refusal {
             Refusal::Units(_) => 10,
             Refusal::NoHistory => 10,
             Refusal::Line(_) => 10,
+            Refusal::TooSmall { .. } => 8,
+            Refusal::IdsSpent { .. } => 11,
         }
     }
 }

@@ -3,26 +3,46 @@ ghost use Rattle.std.specs.Fmt.{decimal};
 ghost use Rattle.reg_requests.specs.Lines.{line, spaced};
 ghost use Rattle.reg_requests.specs.declared.items.Item.{Item as AnItem};
 ghost use Rattle.reg_top.specs.commands.Run.{item_lines};
-ghost use Rattle.reg_top.specs.inner.OneRound.{account_texts};
+ghost use Rattle.reg_top.specs.inner.RunRounds.{account_texts, round_texts};
 
-use iscc_header::NoMemory;
-use reg_model::{Call, Row, Rows};
+use iscc_header::{Items, NoMemory};
+use reg_model::{Call, Round, Row, Rows};
 use reg_requests::{
     Item, Requests, kind_of, print_bad, print_reply, print_word, print_word_number,
 };
 
-/// Appends the replies of the first round to its sessions, of which each has its items and its account.
-pub(crate) fn print_accounts(
+/// Appends the replies of each round to its sessions, of which each has its items and its account.
+pub(crate) fn print_rounds(
+    lists: &[Items<Requests>],
+    rounds: &[Round],
+    out: &mut Vec<u8>,
+) -> Result<(), NoMemory>
+    ensures { OnOk result (out.new.items ≡ out.old.items ++ round_texts 0 lists.now rounds.now) }
+{
+    for number in 0..rounds.len().min(lists.len()) {
+        let round = &rounds[number];
+        print_accounts(
+            number as u64,
+            lists[number].as_slice(),
+            round.accounts.as_slice(),
+            out,
+        )?;
+    }
+    Ok(())
+}
+
+// Appends the replies of a round to its sessions.
+fn print_accounts(
+    round: u64,
     lists: &[Requests],
     accounts: &[Rows],
     out: &mut Vec<u8>,
 ) -> Result<(), NoMemory>
-    requires { length accounts.now ≡ length lists.now }
-    ensures { OnOk result (out.new.items ≡ out.old.items ++ account_texts 0 0 lists.now accounts.now) }
+    ensures { OnOk result (out.new.items ≡ out.old.items ++ account_texts round 0 lists.now accounts.now) }
 {
-    for session in 0..lists.len() {
+    for session in 0..lists.len().min(accounts.len()) {
         print_replies(
-            0,
+            round,
             session as u64,
             lists[session].as_slice(),
             accounts[session].as_slice(),

@@ -9,7 +9,7 @@ ghost use Rattle.reg_top.specs.Fetches.{RoundPlan};
 ghost use Rattle.reg_top.specs.Fetches.Command.{Run};
 ghost use Rattle.reg_top.specs.Words.{IsForm, IsSideCommand};
 ghost use Rattle.reg_top.specs.commands.Run.{accounts_served};
-ghost use Rattle.reg_top.specs.Outcomes.{Writes, TakesLoneOutput, IsOutcome};
+ghost use Rattle.reg_top.specs.Outcomes.{Writes, TakesLoneOutput, IsRefusalNumber, TellsRefusal, IsOutcome};
 
 use crate::args::Args;
 use crate::commands::run::run_command;
@@ -24,7 +24,7 @@ use std::thread::Threads;
 /// have threads of their own, which wait for the gate, and for each other.
 ///
 /// On status 5 the sink has a front of the output, and on every other status but 0 a line that tells it, or a front of that
-/// line where the sink failed. What the seals are on another status than 0 isn't told.
+/// line where the sink failed. What the seals are on another status than 0, 8 and 11 isn't told.
 pub fn top<F: Shelf, K: Sink, G: Gate, R: Threads + Wait + Sync>(
     rt: &R,
     alloc: Global,
@@ -47,6 +47,12 @@ pub fn top<F: Shelf, K: Sink, G: Gate, R: Threads + Wait + Sync>(
     ensures lone { (plan : List RoundPlan) → IsForm words.now (Run plan) → result ≡ 0 → TakesLoneOutput plan
         (outside (F.files shelf.old) (F.fetch_faults shelf.old) (K.taken sink.old) (K.faults sink.old))
         (outside (F.files shelf.new) (F.fetch_faults shelf.new) (K.taken sink.new) (K.faults sink.new)) }
+
+    // Where a round is refused, its numbers are told, and there is one seal for each round before it.
+    ensures refused { (plan : List RoundPlan) → IsForm words.now (Run plan) → IsRefusalNumber result → (served : List RoundRows) × TellsRefusal (Run plan)
+        (outside (F.files shelf.old) (F.fetch_faults shelf.old) (K.taken sink.old) (K.faults sink.old))
+        (outside (F.files shelf.new) (F.fetch_faults shelf.new) (K.taken sink.new) (K.faults sink.new)) served result
+        × (seals.new ≡ map accounts_served served) }
 
     // A command that serves nothing leaves no seal.
     ensures seals { IsSideCommand words.now → seals.new ≡ [] }

@@ -1,28 +1,7 @@
 ghost use Rattle.std.specs.Prelude.{◌≡◌, ◌<◌, ℕ, List, ◌↔◌, IsTrue, IfSome, IfNone, All, length, drop, slice_get};
-ghost use Rattle.reg_requests.specs.Numbers.{IsNumber};
-ghost use Rattle.reg_top.specs.Words.{IsValue, IsRoundMark, IsFileName, AreSizes, HasFiles, HasOneValue, side_text, IsSideCommand};
+ghost use Rattle.reg_top.specs.Words.{IsValue, HasOneValue, side_text, IsSideCommand};
 
 use crate::args::Args;
-use reg_model::CALLERS_MOST;
-use reg_requests::read_number;
-
-/// Whether the words are `run` and the names of files, one to 16.
-pub(crate) fn has_files(words: &Args) -> bool
-    ensures { IsTrue result ↔ HasFiles words.now (drop 1 words.now) }
-{
-    if words.len() < 2 || words.len() - 1 > CALLERS_MOST as usize {
-        return false;
-    }
-    if words.word(0) != "run" {
-        return false;
-    }
-    for at in 0..words.len() - 1 {
-        if !is_file_name(words.word(at + 1)) {
-            return false;
-        }
-    }
-    true
-}
 
 /// The first word of a command that serves nothing.
 #[derive(Clone, Copy, Debug, PartialEq, Eq)]
@@ -84,45 +63,12 @@ pub(crate) fn has_texts(words: &Args) -> bool
     true
 }
 
-// A value that ends no round.
-fn is_file_name(word: &str) -> bool
-    ensures { IsTrue result ↔ IsFileName word.now }
-{
-    is_value(word) && !is_round_mark(word)
-}
-
-// A word that isn't empty and doesn't begin with `-`.
-fn is_value(word: &str) -> bool
+/// Whether a word isn't empty and doesn't begin with `-`.
+pub(crate) fn is_value(word: &str) -> bool
     ensures { IsTrue result ↔ IsValue word.now }
 {
     match word.as_bytes() {
         [] => false,
         [first, ..] => *first != b'-',
     }
-}
-
-// A word that ends a round.
-fn is_round_mark(word: &str) -> bool
-    ensures { IsTrue result ↔ IsRoundMark word.now }
-{
-    match word.strip_prefix("/") {
-        None => false,
-        Some(sizes) => sizes.is_empty() || are_sizes(sizes),
-    }
-}
-
-// Two numbers with a colon between them.
-fn are_sizes(text: &str) -> bool
-    ensures { IsTrue result ↔ AreSizes text.now }
-{
-    match text.split_once(':') {
-        None => false,
-        Some((entries, log)) => is_number(entries) && is_number(log),
-    }
-}
-
-fn is_number(text: &str) -> bool
-    ensures { IsTrue result ↔ IsNumber text.now }
-{
-    read_number(text.as_bytes()).is_some()
 }

@@ -1,17 +1,23 @@
--- `run FILE ..`: what it writes, and the accounts of its sessions.
-use Rattle.std.specs.Prelude.{◌≡◌, ℕ, ◌+◌, List, [], ◌∷◌, ◌++◌, length, map, slice_get, All, Some, codes}
+-- `run`: what it writes, the accounts of its sessions, and why it refuses a round.
+use Rattle.std.specs.Prelude.{◌≡◌, ℕ, ◌+◌, Option, None, List, [], ◌∷◌, ◌++◌, length, map, slice_get, All, Some, codes}
 use Rattle.std.specs.List.{AllZip, range_with_len}
 use Rattle.std.specs.Fmt.{decimal}
 use Rattle.reg_model.specs.declared.reply.Row.{Row}
-use Rattle.reg_model.specs.Opening.{Opening}
+use Rattle.reg_model.specs.declared.start.StartFault.{StartFault}
+use Rattle.reg_model.specs.declared.start.StartFault.TheVariants as faults
+use Rattle.reg_model.specs.Registry.{start_refusal}
+use Rattle.reg_model.specs.Limits.{Limits}
+use Rattle.reg_model.specs.Opening.{Opening, IsOpening}
 use Rattle.reg_model.specs.Rows.{session_rows, AsksLogFirst}
-use Rattle.reg_model.specs.Runs.{RoundRows, IsHistory, next_opening}
+use Rattle.reg_model.specs.Runs.{RoundRows, IsHistory, IsLawfulRun, next_opening, closing}
 use Rattle.reg_requests.specs.declared.items.Item.{Item}
 use Rattle.reg_requests.specs.declared.items.Item.TheVariants as items
 use Rattle.reg_session.specs.Files.{Files}
 use Rattle.reg_requests.specs.Lines.{line, spaced, reply_text, bad_text, kind_of}
 use Rattle.reg_requests.specs.Requests.{AreItems, calls_of}
 use Rattle.reg_history.specs.History.{history_text}
+use Rattle.reg_top.specs.declared.refusal.Refusal.{Refusal}
+use Rattle.reg_top.specs.declared.refusal.Refusal.TheVariants.{TooSmall, IdsSpent}
 use Rattle.reg_top.specs.Fetches.{RoundPlan}
 use Rattle.reg_history.specs.lines.Values.{IsRunValue}
 
@@ -53,14 +59,46 @@ abbrev pub AskLogFirst : Opening → List RoundRows → Type 0
 AskLogFirst opening [] = Unit {0}
 AskLogFirst opening (round ∷ rounds) = (round.limits.callers ≡ 1 → All (AsksLogFirst round.limits opening) round.rows) × AskLogFirst (next_opening opening round.rows) rounds
 
--- The output is that of one lawful run, whose numbers the program's types can have, and which makes the calls of the planned files.
-pub record IsRunOutput (opening : Opening) (plan : List RoundPlan) (files : Files) (rounds : List RoundRows) (output : List ℕ) : Type 0 where
+-- The rounds have the planned sizes and make the calls of the planned files; their numbers are those that the program's types can
+-- have; and a lone session is told of a full log first.
+pub record MakesPlan (opening : Opening) (plan : List RoundPlan) (files : Files) (rounds : List RoundRows) : Type 0 where
   pub items : List (List (List Item))
   pub callers : All (λ (p : RoundPlan). p.limits.callers ≡ length p.names) plan
   pub read : AllZip (λ (p : RoundPlan) lists. AllZip (IsFileOf files) p.names lists) plan items
   pub sizes : map (λ (p : RoundPlan). p.limits) plan ≡ map (λ (r : RoundRows). r.limits) rounds
   pub calls : AllZip MakesCalls items rounds
-  pub lawful : IsHistory opening rounds
   pub alone : AskLogFirst opening rounds
   pub values : IsRunValue opening rounds
-  pub text : output ≡ reply_texts 0 items rounds ++ history_text opening rounds
+
+-- The output is that of one lawful run, which makes the calls of the planned files.
+pub record IsRunOutput (opening : Opening) (plan : List RoundPlan) (files : Files) (rounds : List RoundRows) (output : List ℕ) : Type 0 where
+  pub made : MakesPlan opening plan files rounds
+  pub lawful : IsHistory opening rounds
+  pub text : output ≡ reply_texts 0 made.items rounds ++ history_text opening rounds
+
+-- the refusal of the round with this number, where a desk refuses to begin
+abbrev pub refusal_for : ℕ → Option StartFault → Option Refusal
+refusal_for number None = None
+refusal_for number (Some (faults.TooSmall live entries)) = Some (TooSmall number live entries)
+refusal_for number (Some (faults.IdsSpent base log)) = Some (IdsSpent number base log)
+refusal_for number (Some faults.NoMemory) = None
+
+-- why the round with this number can't begin so: more declarations are live than it has entries, or its last id would be 2^34 or more
+abbrev pub round_refusal : ℕ → Limits → Opening → Option Refusal
+round_refusal number limits opening = refusal_for number (start_refusal limits opening)
+
+-- The rounds are a lawful run with the first planned sizes, and the next planned round can't begin with what they leave.
+pub record RefusesAfter (opening : Opening) (plan : List RoundPlan) (rounds : List RoundRows) (refusal : Refusal) : Type 0 where
+  pub before : List RoundPlan
+  pub next : RoundPlan
+  pub rest : List RoundPlan
+  pub split : plan ≡ before ++ next ∷ rest
+  pub sizes : map (λ (p : RoundPlan). p.limits) before ≡ map (λ (r : RoundRows). r.limits) rounds
+  pub opens : IsOpening opening
+  pub lawful : IsLawfulRun opening rounds
+  pub why : round_refusal (length rounds) next.limits (closing opening rounds) ≡ Some refusal
+
+-- these rounds make the calls of the planned files, too
+pub record RefusesRound (opening : Opening) (plan : List RoundPlan) (files : Files) (rounds : List RoundRows) (refusal : Refusal) : Type 0 where
+  pub after : RefusesAfter opening plan rounds refusal
+  pub made : MakesPlan opening after.before files rounds

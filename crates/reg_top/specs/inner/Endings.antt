@@ -17,7 +17,7 @@ use Rattle.reg_top.specs.Fetches.{Command, Fetch, fetches}
 use Rattle.reg_top.specs.SavedHistories.{HasNoHistory, HasFaultyHistory}
 use Rattle.reg_top.specs.commands.Explain.{RefusesText}
 use Rattle.reg_top.specs.commands.Compose.{RefusesTexts}
-use Rattle.reg_top.specs.Dispatch.{IsOutput, Refuses}
+use Rattle.reg_top.specs.Dispatch.{IsOutput, Refuses, RefusesServed}
 use Rattle.reg_top.specs.FaultLines.{missing_line, read_line, long_line, memory_line, refusal_line, refusal_number}
 use Rattle.reg_top.specs.Outcomes.{GivenBy, IsHeld, IsMissing, IsTooLong, IsReached}
 
@@ -114,6 +114,7 @@ pub record EndsUnwritten (command : Command) (before after : Outside) (served : 
 pub record EndsRefused (command : Command) (before after : Outside) (served : List RoundRows) (refusal : Refusal) : Type 0 where
   pub fetched : Fetched command before after
   pub why : GivenBy (fetches command) before.shelf.files (λ files. Refuses command files served refusal)
+  pub rounds : RefusesServed command served refusal
   pub told : Tells before.sink after.sink (refusal_line refusal)
 
 pub record EndsShort (before after : Outside) : Type 0 where
@@ -126,3 +127,11 @@ Ends command before after served (endings.Unread fault) = GivesNone command befo
 Ends command before after served (endings.Refused refusal) = EndsRefused command before after served refusal
 Ends command before after served endings.Unwritten = EndsUnwritten command before after served
 Ends command before after served endings.NoMemory = EndsShort before after
+
+-- the ending with which a run has served its rounds, or those before the one that it refuses
+abbrev pub IsServedEnding : Ending → Type 0
+IsServedEnding endings.Done = Unit {0}
+IsServedEnding (endings.Unread fault) = ⊥
+IsServedEnding (endings.Refused refusal) = Unit {0}
+IsServedEnding endings.Unwritten = ⊥
+IsServedEnding endings.NoMemory = ⊥

@@ -1,36 +1,40 @@
-ghost use Rattle.std.specs.Prelude.{◌≡◌, ◌<◌, ◌≤◌, [], ◌∷◌, ◌++◌, ℕ, List, All, OnOk, IfOk, IfErr, IfSome, length, map, drop};
-ghost use Rattle.std.specs.List.{AllZip};
-ghost use Rattle.reg_model.specs.declared.sizes.TheConstants.{CALLERS_MOST};
+ghost use Rattle.std.specs.Prelude.{◌≡◌, ◌<◌, ◌≤◌, [], ◌∷◌, ◌++◌, ℕ, List, All, OnOk, IfOk, IfErr, IfSome, MatchResult, length, map, slice_get, take};
+ghost use Rattle.std.specs.List.{AllZip, flat_map};
 ghost use Rattle.reg_model.specs.declared.round.TheConstants.{ROUNDS_MOST};
 ghost use Rattle.reg_model.specs.declared.round.Round.{Round as ARound};
-ghost use Rattle.reg_model.specs.Limits.{usual_limits};
+ghost use Rattle.reg_model.specs.declared.start.StartFault.TheVariants.{NoMemory as Wanting};
+ghost use Rattle.reg_model.specs.Limits.{Limits as TheLimits};
+ghost use Rattle.reg_model.specs.Opening.{Opening};
+ghost use Rattle.reg_model.specs.Registry.{start_refusal};
 ghost use Rattle.reg_model.specs.Runs.{RoundRows, nothing};
 ghost use Rattle.reg_requests.specs.Requests.{calls_of as calls_asked};
+ghost use Rattle.reg_history.specs.History.{history_text};
+ghost use Rattle.reg_history.specs.Rounds.{AreRoundsOf, IsRunOf};
 ghost use Rattle.reg_session.specs.declared.shelf.FetchFault.TheVariants.{Failed};
 ghost use Rattle.reg_session.specs.Faults.{HasCause};
 ghost use Rattle.reg_session.specs.Files.{Files};
 ghost use Rattle.reg_session.specs.Outside.{outside};
-ghost use Rattle.reg_session.specs.Sessions.{ServesRound};
-ghost use Rattle.reg_top.specs.declared.ending.Ending.TheVariants.{Done};
-ghost use Rattle.reg_top.specs.Fetches.{fetch_of};
+ghost use Rattle.reg_top.specs.Fetches.{RoundPlan, fetch_of};
 ghost use Rattle.reg_top.specs.Fetches.Command.{Run};
-ghost use Rattle.reg_top.specs.Words.{HasFiles, plan_of, IsSideCommand};
-ghost use Rattle.reg_top.specs.commands.Run.{IsRunOutput, accounts_served};
-ghost use Rattle.reg_top.specs.Outcomes.{IsOutcome};
-ghost use Rattle.reg_top.specs.inner.Endings.{Ends, UnreadWhy};
-ghost use Rattle.reg_top.specs.inner.OneRound.{MayBeServed, IsRead, IsFirstUnread, account_texts};
+ghost use Rattle.reg_top.specs.Words.{IsSideCommand};
+ghost use Rattle.reg_top.specs.commands.Run.{accounts_served, round_refusal};
+ghost use Rattle.reg_top.specs.Outcomes.{IsOutcome, IsServedStatus};
+ghost use Rattle.reg_top.specs.inner.Endings.{Ends, UnreadWhy, IsServedEnding};
+ghost use Rattle.reg_top.specs.inner.RunPlans.{MayBeRun};
+ghost use Rattle.reg_top.specs.inner.RunRounds.{MayBeServed, IsRead, ReadsRound, AreUnread, FitsRound, ServesNext, ServesFrom, left_by, round_accounts, StopsAt, round_texts, IsServedText, IsDeclinedAt, IsDeclinedNext};
 
 use crate::args::Args;
 use crate::ending::{Declined, Ending, written};
 use crate::fault_line::{declined, no_form, unread};
 use crate::fetch::fetch_file;
-use crate::replies::print_accounts;
+use crate::refusal::Refusal;
+use crate::replies::print_rounds;
+use crate::run_words::{RunPlan, run_plan};
 use crate::served::{Served, keep};
-use crate::words::has_files;
 use crate::write::write_all;
-use iscc_header::NoMemory;
+use iscc_header::{Items, NoMemory};
 use reg_history::append_history;
-use reg_model::{BITS_USUAL, Call, Carried, ENTRIES_USUAL, LOG_USUAL, Round, Sizes};
+use reg_model::{Call, Carried, Round, Sizes};
 use reg_requests::{Item, Requests, read_requests};
 use reg_session::{FetchFault, Gate, RoundFault, Seals, Shelf, Sink, run_round};
 use std::alloc::Global;
@@ -40,14 +44,15 @@ use std::thread::Threads;
 /// The greatest length of a request file, in bytes.
 pub(crate) const REQUEST_MOST: usize = 1 << 24;
 
-// The first file that gave no requests, by its place behind `run`, and why.
+// Why the files of a run aren't read.
 #[derive(Clone, Copy, Debug)]
-struct Unread {
-    at: usize,
-    fault: FetchFault,
+enum Unread<'a> {
+    // The first file that gave no requests, and why.
+    File { name: &'a str, fault: FetchFault },
+    NoMemory,
 }
 
-/// `run FILE ..`: serves the calls of request files, a session for each, and writes the replies and the history.
+/// `run`: serves the calls of request files round by round, a session for each file, and writes the replies and the history.
 pub(crate) fn run_command<F: Shelf, K: Sink, G: Gate, R: Threads + Wait + Sync>(
     rt: &R,
     alloc: Global,
@@ -62,12 +67,11 @@ pub(crate) fn run_command<F: Shelf, K: Sink, G: Gate, R: Threads + Wait + Sync>(
     ensures { (served : List RoundRows) × IsOutcome words.now
         (outside (F.files shelf.old) (F.fetch_faults shelf.old) (K.taken sink.old) (K.faults sink.old))
         (outside (F.files shelf.new) (F.fetch_faults shelf.new) (K.taken sink.new) (K.faults sink.new)) served result
-        × (result ≡ 0 → seals.new ≡ map accounts_served served) }
+        × (IsServedStatus result → seals.new ≡ map accounts_served served) }
 {
-    if has_files(words) {
-        run(rt, alloc, words, shelf, sink, gate, seals).number()
-    } else {
-        no_form(sink)
+    match run_plan(words) {
+        Some(plan) => run(rt, alloc, &plan, shelf, sink, gate, seals).number(),
+        None => no_form(sink),
     }
 }
 
@@ -75,49 +79,74 @@ pub(crate) fn run_command<F: Shelf, K: Sink, G: Gate, R: Threads + Wait + Sync>(
 fn run<F: Shelf, K: Sink, G: Gate, R: Threads + Wait + Sync>(
     rt: &R,
     alloc: Global,
-    words: &Args,
+    plan: &RunPlan<'_>,
     shelf: &mut F,
     sink: &mut K,
     gate: &G,
     seals: &mut Seals<Served>,
 ) -> Ending
-    requires form { HasFiles words.now (drop 1 words.now) }
+    requires plan { MayBeRun plan.now }
     requires empty { seals.old ≡ [] }
-    ensures ends { (served : List RoundRows) × Ends (Run (plan_of (drop 1 words.now)))
+    ensures ends { (served : List RoundRows) × Ends (Run plan.now)
         (outside (F.files shelf.old) (F.fetch_faults shelf.old) (K.taken sink.old) (K.faults sink.old))
         (outside (F.files shelf.new) (F.fetch_faults shelf.new) (K.taken sink.new) (K.faults sink.new)) served result
-        × (result ≡ Done → seals.new ≡ map accounts_served served) }
+        × (IsServedEnding result → seals.new ≡ map accounts_served served) }
     ensures same { F.files shelf.new ≡ F.files shelf.old }
 {
-    match read_files(alloc, words, shelf) {
-        Ok(lists) => match output_of(rt, alloc, lists.as_slice(), gate, seals) {
+    match read_rounds(alloc, plan, shelf) {
+        Ok(lists) => match output_of(rt, alloc, plan, lists.as_slice(), gate, seals) {
             Ok(output) => written(write_all(sink, output.as_slice())),
-            Err(NoMemory) => declined(sink, Declined::NoMemory),
+            Err(why) => declined(sink, why),
         },
-        Err(Unread { at, fault }) => unread(sink, fault, words.word(at + 1)),
+        Err(Unread::File { name, fault }) => unread(sink, fault, name),
+        Err(Unread::NoMemory) => declined(sink, Declined::NoMemory),
     }
 }
 
-// The calls and refused lines of each file, in the order of the words.
-fn read_files<F: Shelf>(alloc: Global, words: &Args, shelf: &mut F) -> Result<Vec<Requests>, Unread>
-    requires { 1 ≤ length words.now }
-    ensures read { IfOk result (λ lists. AllZip (IsRead (F.files shelf.old)) (drop 1 words.now) lists.items) }
+// ---- files
+
+// The calls and refused lines of the files of each round. All files are read before a call is served.
+fn read_rounds<'a, F: Shelf>(
+    alloc: Global,
+    plan: &'a RunPlan<'_>,
+    shelf: &mut F,
+) -> Result<Items<Items<Requests>>, Unread<'a>>
+    ensures read { IfOk result (λ lists. AllZip (ReadsRound (F.files shelf.old)) plan.now lists) }
     ensures quiet { OnOk result (F.fetch_faults shelf.new ≡ F.fetch_faults shelf.old) }
-    ensures first { IfErr result (IsFirstUnread (F.files shelf.old) (F.fetch_faults shelf.old) (F.fetch_faults shelf.new) (drop 1 words.now)) }
+    ensures why { IfErr result (AreUnread (F.files shelf.old) (F.fetch_faults shelf.old) (F.fetch_faults shelf.new) (flat_map (λ (p : RoundPlan). p.names) plan.now)) }
     ensures same { F.files shelf.new ≡ F.files shelf.old }
 {
-    let mut lists = Vec::new(alloc);
-    for at in 0..words.len() - 1 {
-        match read_file(alloc, words.word(at + 1), shelf) {
+    let mut lists = Items::new(alloc);
+    for at in 0..plan.len() {
+        let list = read_files(alloc, plan.names(at), shelf)?;
+        if let Err(NoMemory) = lists.push(list) {
+            return Err(Unread::NoMemory);
+        }
+    }
+    Ok(lists)
+}
+
+// The calls and refused lines of each file of a round.
+fn read_files<'a, F: Shelf>(
+    alloc: Global,
+    names: &[&'a str],
+    shelf: &mut F,
+) -> Result<Items<Requests>, Unread<'a>>
+    ensures read { IfOk result (AllZip (IsRead (F.files shelf.old)) (map (λ name. name.now) names.now)) }
+    ensures quiet { OnOk result (F.fetch_faults shelf.new ≡ F.fetch_faults shelf.old) }
+    ensures why { IfErr result (AreUnread (F.files shelf.old) (F.fetch_faults shelf.old) (F.fetch_faults shelf.new) (map (λ name. name.now) names.now)) }
+    ensures same { F.files shelf.new ≡ F.files shelf.old }
+{
+    let mut lists = Items::new(alloc);
+    for at in 0..names.len() {
+        let name = names[at];
+        match read_file(alloc, name, shelf) {
             Ok(list) => {
-                if lists.push(list).is_err() {
-                    return Err(Unread {
-                        at,
-                        fault: FetchFault::NoMemory,
-                    });
+                if let Err(NoMemory) = lists.push(list) {
+                    return Err(Unread::NoMemory);
                 }
             }
-            Err(fault) => return Err(Unread { at, fault }),
+            Err(fault) => return Err(Unread::File { name, fault }),
         }
     }
     Ok(lists)
@@ -138,56 +167,166 @@ fn read_file<F: Shelf>(alloc: Global, name: &str, shelf: &mut F) -> Result<Reque
     }
 }
 
-// The output of a run of one round whose sessions make the calls of these items.
+// ---- rounds
+
+// The output of a run whose sessions make the calls of these items.
 fn output_of<G: Gate, R: Threads + Wait + Sync>(
     rt: &R,
     alloc: Global,
-    lists: &[Requests],
+    plan: &RunPlan<'_>,
+    lists: &[Items<Requests>],
     gate: &G,
     seals: &mut Seals<Served>,
-) -> Result<Vec<u8>, NoMemory>
-    requires some { 1 ≤ length lists.now }
-    requires few { length lists.now ≤ CALLERS_MOST }
-    requires served { All MayBeServed lists.now }
+) -> Result<Vec<u8>, Declined>
+    requires plan { MayBeRun plan.now }
+    requires lists { AllZip FitsRound plan.now lists.now }
     requires empty { seals.old ≡ [] }
-    ensures { IfOk result (λ output. (served : List RoundRows)
-        × ((files : Files) (names : List (List ℕ)) → AllZip (IsRead (Some files)) names lists.now → IsRunOutput nothing (plan_of names) files served output.items)
-        × (seals.new ≡ map accounts_served served)) }
+    ensures made { IfOk result (λ output. IsServedText plan.now lists.now seals.new output.items) }
+    ensures why { IfErr result (IsDeclinedAt plan.now lists.now seals.new) }
 {
-    let sizes = Sizes::new(ENTRIES_USUAL, LOG_USUAL, BITS_USUAL, lists.len() as u32).unwrap();
-    let rounds = [serve_lists(rt, alloc, &sizes, lists, gate, seals)?];
+    let rounds = serve_rounds(rt, alloc, plan, lists, gate, seals)?;
+    match print_output(alloc, lists, rounds.as_slice()) {
+        Ok(output) => Ok(output),
+        Err(NoMemory) => Err(Declined::NoMemory),
+    }
+}
+
+// The replies and the history of these rounds.
+fn print_output(
+    alloc: Global,
+    lists: &[Items<Requests>],
+    rounds: &[Round],
+) -> Result<Vec<u8>, NoMemory>
+    requires { IsRunOf nothing rounds.now }
+    ensures { IfOk result (λ output. (rows : List RoundRows) → AreRoundsOf nothing rounds.now rows
+        → output.items ≡ round_texts 0 lists.now rounds.now ++ history_text nothing rows) }
+{
     let mut output = Vec::new(alloc);
-    print_accounts(lists, rounds[0].accounts.as_slice(), &mut output)?;
-    append_history(alloc, &Carried::new(alloc, 0), &rounds, &mut output)?;
+    print_rounds(lists, rounds, &mut output)?;
+    append_history(alloc, &Carried::new(alloc, 0), rounds, &mut output)?;
     Ok(output)
 }
 
-// The round of sessions that make the calls of these items, which begins with nothing. Its seal is kept.
-fn serve_lists<G: Gate, R: Threads + Wait + Sync>(
+// Serves the rounds, each of which begins with what the one before it leaves, and keeps their seals.
+fn serve_rounds<G: Gate, R: Threads + Wait + Sync>(
+    rt: &R,
+    alloc: Global,
+    plan: &RunPlan<'_>,
+    lists: &[Items<Requests>],
+    gate: &G,
+    seals: &mut Seals<Served>,
+) -> Result<Items<Round>, Declined>
+    requires plan { MayBeRun plan.now }
+    requires lists { AllZip FitsRound plan.now lists.now }
+    requires empty { seals.old ≡ [] }
+    ensures served { IfOk result (ServesFrom nothing plan.now lists.now) }
+    ensures kept { IfOk result (λ rounds. seals.new ≡ round_accounts rounds) }
+    ensures why { IfErr result (IsDeclinedAt plan.now lists.now seals.new) }
+{
+    let mut rounds = Items::new(alloc);
+    for at in 0..plan.len() {
+        let sizes = plan.sizes(at);
+        let round = serve_next(
+            rt,
+            alloc,
+            &sizes,
+            rounds.as_slice(),
+            lists[at].as_slice(),
+            gate,
+            seals,
+        )?;
+        if let Err(NoMemory) = rounds.push(round) {
+            return Err(Declined::NoMemory);
+        }
+    }
+    Ok(rounds)
+}
+
+// Serves the round behind these, and keeps its seal.
+fn serve_next<G: Gate, R: Threads + Wait + Sync>(
     rt: &R,
     alloc: Global,
     sizes: &Sizes,
+    rounds: &[Round],
     lists: &[Requests],
     gate: &G,
     seals: &mut Seals<Served>,
-) -> Result<Round, NoMemory>
+) -> Result<Round, Declined>
     requires lists { length lists.now ≡ sizes.now.callers }
-    requires sizes { sizes.now ≡ usual_limits sizes.now.callers }
+    requires served { All MayBeServed lists.now }
+    requires few { length rounds.now < ROUNDS_MOST }
+    requires kept { seals.old ≡ round_accounts rounds.now }
+    ensures served { IfOk result (ServesNext sizes.now (left_by nothing rounds.now) lists.now) }
+    ensures kept { IfOk result (λ round. seals.new ≡ seals.old ++ round.accounts ∷ []) }
+    ensures why { IfErr result (IsDeclinedNext (length rounds.now) sizes.now (left_by nothing rounds.now)) }
+    ensures same { IfErr result (λ why. seals.new ≡ seals.old) }
+{
+    let number = rounds.len();
+    match rounds.last() {
+        Some(before) => serve_lists(
+            rt,
+            alloc,
+            number,
+            sizes,
+            &before.carried,
+            lists,
+            gate,
+            seals,
+        ),
+        None => {
+            let none = Carried::new(alloc, 0);
+            serve_lists(rt, alloc, number, sizes, &none, lists, gate, seals)
+        }
+    }
+}
+
+// Serves the round with this number, which begins with what is carried, and keeps its seal.
+fn serve_lists<G: Gate, R: Threads + Wait + Sync>(
+    rt: &R,
+    alloc: Global,
+    number: usize,
+    sizes: &Sizes,
+    carried: &Carried,
+    lists: &[Requests],
+    gate: &G,
+    seals: &mut Seals<Served>,
+) -> Result<Round, Declined>
+    requires lists { length lists.now ≡ sizes.now.callers }
     requires served { All MayBeServed lists.now }
     requires room { length seals.old < ROUNDS_MOST }
-    ensures served { IfOk result (ServesRound sizes.now nothing (map calls_asked lists.now)) }
-    ensures seal { IfOk result (λ round. seals.new ≡ seals.old ++ round.accounts ∷ []) }
+    ensures served { IfOk result (ServesNext sizes.now carried.now lists.now) }
+    ensures kept { IfOk result (λ round. seals.new ≡ seals.old ++ round.accounts ∷ []) }
+    ensures why { IfErr result (IsDeclinedNext number sizes.now carried.now) }
+    ensures same { IfErr result (λ why. seals.new ≡ seals.old) }
 {
-    let calls = calls_of_each(alloc, lists)?;
-    let carried = Carried::new(alloc, 0);
-    match run_round::<Served, G, R>(rt, alloc, sizes, &carried, calls.as_slice(), gate) {
+    let calls = match calls_of_each(alloc, lists) {
+        Ok(calls) => calls,
+        Err(NoMemory) => return Err(Declined::NoMemory),
+    };
+    match run_round::<Served, G, R>(rt, alloc, sizes, carried, calls.as_slice(), gate) {
         Ok((round, seal)) => {
             keep(seals, seal);
             Ok(round)
         }
-        Err(RoundFault::NoMemory) => Err(NoMemory),
-        // Nothing is carried, and a log that begins with the id 0 ends in range.
-        Err(_) => unreachable!(),
+        Err(fault) => Err(refused(number as u64, fault)),
+    }
+}
+
+// Why the round with this number can't be served.
+fn refused(round: u64, fault: RoundFault) -> Declined
+    ensures why { (sizes : TheLimits) (opening : Opening) → start_refusal sizes opening ≡ Some fault → IsDeclinedNext round sizes opening result }
+    ensures memory { fault ≡ Wanting → result ≡ Declined.NoMemory }
+{
+    match fault {
+        RoundFault::TooSmall { live, entries } => Declined::Refused(Refusal::TooSmall {
+            round,
+            live,
+            entries,
+        }),
+        RoundFault::IdsSpent { base, log } => {
+            Declined::Refused(Refusal::IdsSpent { round, base, log })
+        }
+        RoundFault::NoMemory => Declined::NoMemory,
     }
 }
 

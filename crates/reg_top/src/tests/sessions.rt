@@ -6,7 +6,11 @@ use std::sync::atomic::{AtomicBool, AtomicU32, Ordering};
 use std::thread;
 
 // A shelf of files with these names and texts.
-fn files_of(alloc: Global, files: &[(&str, &[u8])], fail: &[u64]) -> Result<ListShelf, AllocError> {
+pub(super) fn files_of(
+    alloc: Global,
+    files: &[(&str, &[u8])],
+    fail: &[u64],
+) -> Result<ListShelf, AllocError> {
     let mut list = Vec::new(alloc);
     for file in files {
         list.push((file.0.to_string(alloc)?, Vec::from_slice(alloc, file.1)?))?;
@@ -32,14 +36,14 @@ fn run_files<R: Threads + Wait + Sync + AllocGlobal>(
 }
 
 // How many seals were kept.
-fn kept(seals: &Seals<Served>) -> usize
+pub(super) fn kept(seals: &Seals<Served>) -> usize
     ensures { result ≡ length seals.now }
 {
     seals.len()
 }
 
 // The number of rows and of live declarations, where the history behind the replies is lawful.
-fn checked(alloc: Global, output: &str) -> Result<(u64, u64), Fail> {
+pub(super) fn checked(alloc: Global, output: &str) -> Result<(u64, u64), Fail> {
     let at = output.find("iscc-history 1\n").ok_or("no history")?;
     match check_history(alloc, &output.as_bytes()[at..]) {
         Ok(summary) => Ok((summary.rows, summary.live)),

@@ -20,3 +20,11 @@ returns-in-NoHistory g c = rw c.in-NoHistory.is c.tell-in-NoHistory.ensures
 pub returns-in-Line : goal.returns-in-Line
 unfolding digits
 returns-in-Line g c = rw c.in-Line.is c.tell_line.ensures
+
+pub returns-in-TooSmall : goal.returns-in-TooSmall
+unfolding digits
+returns-in-TooSmall g c = rw c.in-TooSmall.is c.tell_small.ensures
+
+pub returns-in-IdsSpent : goal.returns-in-IdsSpent
+unfolding digits
+returns-in-IdsSpent g c = rw c.in-IdsSpent.is c.tell_spent.ensures

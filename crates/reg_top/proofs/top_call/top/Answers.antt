@@ -1,4 +1,4 @@
-use Rattle.std.proofs.Common.{[]}
+use Rattle.std.proofs.Common.{[], inl, inr}
 use Rattle.reg_requests.specs.Words.{line_words}
 use Rattle.reg_requests.proofs.TakenIsccs.{takes_iscc}
 use Rattle.reg_top.specs.Fetches.Command.{Run}
@@ -15,7 +15,17 @@ returns-in-None-clause-run g c = λ plan form done.
     let same = c.in-None.ensures.untouched in
     let outcome = c.run_command.ensures in
     let ends = outcome.1.ends (Run plan) form in
-    (outcome.0, rw (← same.0, ← same.1) (ends.done done), outcome.2 done)
+    (outcome.0, rw (← same.0, ← same.1) (ends.done done), outcome.2 (inl done))
+
+pub returns-in-Some-clause-refused : goal.returns-in-Some-clause-refused
+returns-in-Some-clause-refused g c = λ plan form high. let ends = c.in-Some.ensures.outcome.ends (Run plan) form in ([], ends.refused high, c.requires)
+
+pub returns-in-None-clause-refused : goal.returns-in-None-clause-refused
+returns-in-None-clause-refused g c = λ plan form high.
+    let same = c.in-None.ensures.untouched in
+    let outcome = c.run_command.ensures in
+    let ends = outcome.1.ends (Run plan) form in
+    (outcome.0, rw (← same.0, ← same.1) (ends.refused high), outcome.2 (inr high))
 
 pub returns-in-Some-clause-lone : goal.returns-in-Some-clause-lone
 returns-in-Some-clause-lone g c = λ plan form done.

@@ -1,5 +1,5 @@
 use Rattle.std.proofs.Common.{append-nil, refl}
-use Rattle.reg_top.proofs.OneRound.{calls_more}
+use Rattle.reg_top.proofs.ServedRounds.{calls_more}
 use Rattle.reg_top.proofs.commands.run.calls_of.Goals.{in-Call+in_ok-push, in_default}
 use Rattle.reg_top.proofs.commands.run.calls_of.Goals as goal
 

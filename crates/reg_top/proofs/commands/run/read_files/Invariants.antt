@@ -1,6 +1,6 @@
-use Rattle.std.proofs.Common.{◌≡◌, take, drop}
+use Rattle.std.proofs.Common.{◌≡◌, take, map}
 use Rattle.std.specs.List.{AllZip}
-use Rattle.reg_top.specs.inner.OneRound.{IsRead}
+use Rattle.reg_top.specs.inner.RunRounds.{IsRead}
 use Rattle.reg_top.proofs.commands.run.read_files.Given as goal
 
 -- the files so far were read
@@ -8,7 +8,7 @@ abbrev pub invariant-loop-at : goal.invariant-loop-at
 invariant-loop-at g l =
     let shelf = g.F.Shelf in
     record {
-      read : AllZip (IsRead (shelf.files l.fn.shelf)) (take l.at (drop 1 l.words)) l.lists.items;
+      read : AllZip (IsRead (shelf.files l.fn.shelf)) (take l.at (map (λ name. name.now) l.names)) l.lists;
       quiet : shelf.fetch_faults l.shelf ≡ shelf.fetch_faults l.fn.shelf;
       same : shelf.files l.shelf ≡ shelf.files l.fn.shelf;
     }

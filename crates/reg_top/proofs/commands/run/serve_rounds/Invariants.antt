@@ -1,0 +1,11 @@
+use Rattle.std.proofs.Common.{◌≡◌, take}
+use Rattle.reg_model.specs.Runs.{nothing}
+use Rattle.reg_top.specs.inner.RunRounds.{ServesFrom, round_accounts}
+use Rattle.reg_top.proofs.commands.run.serve_rounds.Given as goal
+
+-- the rounds so far were served, and their seals kept
+abbrev pub invariant-loop-at : goal.invariant-loop-at
+invariant-loop-at g l = record {
+  served : ServesFrom nothing (take l.at l.plan) (take l.at l.lists) l.rounds;
+  kept : l.seals ≡ round_accounts l.rounds;
+}

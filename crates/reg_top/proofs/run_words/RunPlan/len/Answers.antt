@@ -1,0 +1,7 @@
+use Rattle.std.proofs.Common.{sym, ap, length, ◌∙◌}
+use Rattle.reg_top.proofs.RunWordsKept.{length_kept}
+use Rattle.reg_top.proofs.run_words.RunPlan.len.Goals as goal
+
+pub returns : goal.returns
+returns c =
+    c.len.ensures.value ∙ sym (length_kept c.self.inside.sizes.items c.self.inside.rounds.items c.self.invariant) ∙ ap length c.self.view_is
