@@ -1,5 +1,5 @@
-use reg_top::{FetchFault, Shelf};
-use std::io::{ErrorKind, Read};
+use reg_top::{FetchFault, PutFault, Shelf};
+use std::io::{ErrorKind, Read, Write};
 use std::rt::Files;
 use std::{fs, io};
 
@@ -7,13 +7,18 @@ use std::{fs, io};
 #[derive(Drop)]
 pub struct FileShelf<'a, R> {
     rt: &'a R,
-    faults: u64,
+    fetch_faults: u64,
+    put_faults: u64,
 }
 
 impl<'a, R> FileShelf<'a, R> {
     /// The files that the runtime opens.
     pub fn new(rt: &'a R) -> FileShelf<'a, R> {
-        FileShelf { rt, faults: 0 }
+        FileShelf {
+            rt,
+            fetch_faults: 0,
+            put_faults: 0,
+        }
     }
 }
 
@@ -22,7 +27,9 @@ impl<R: Files> Shelf for FileShelf<'_, R> {
 
     ghost files = { λ _. None };
 
-    ghost fetch_faults = { λ s. s.faults };
+    ghost fetch_faults = { λ s. s.fetch_faults };
+
+    ghost put_faults = { λ s. s.put_faults };
 
     fn fetch(&mut self, name: &str, into: &mut Vec<u8>, limit: usize) -> Result<(), FetchFault> {
         into.clear();
@@ -36,9 +43,17 @@ impl<R: Files> Shelf for FileShelf<'_, R> {
             Err(error) => fault_of(error.kind()),
         };
         if fault == FetchFault::Failed {
-            self.faults = self.faults.saturating_add(1);
+            self.fetch_faults = self.fetch_faults.saturating_add(1);
         }
         Err(fault)
+    }
+
+    fn put(&mut self, name: &str, bytes: &[u8]) -> Result<(), PutFault> {
+        let put = write_file(self.rt, name, bytes);
+        if put == Err(PutFault::Failed) {
+            self.put_faults = self.put_faults.saturating_add(1);
+        }
+        put
     }
 }
 
@@ -55,5 +70,23 @@ fn fault_of(kind: ErrorKind) -> FetchFault {
 fn read_file<R: Files>(rt: &R, name: &str, into: &mut Vec<u8>, limit: usize) -> io::Result<()> {
     let most = (limit as u64).saturating_add(1);
     let _ = fs::open(rt, name)?.take(most).read_to_end(into)?;
+    Ok(())
+}
+
+// Makes the file, or empties it, and writes the bytes. Memory may be wanting only before the file is changed: what comes after
+// that is a failure, since it leaves something else than it found.
+fn write_file<R: Files>(rt: &R, name: &str, bytes: &[u8]) -> Result<(), PutFault> {
+    let mut file = match fs::create(rt, name) {
+        Ok(file) => file,
+        Err(error) => {
+            return Err(match error.kind() {
+                ErrorKind::OutOfMemory => PutFault::NoMemory,
+                _ => PutFault::Failed,
+            });
+        }
+    };
+    if file.write_all(bytes).is_err() || file.flush().is_err() {
+        return Err(PutFault::Failed);
+    }
     Ok(())
 }

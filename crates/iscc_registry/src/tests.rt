@@ -1,5 +1,6 @@
 use super::*;
-use reg_top::{ListSink, NoGate, no_seals, top};
+use reg_top::{FetchFault, ListSink, NoGate, PutFault, Shelf, no_seals, top};
+use std::fs;
 use std::rt::Files;
 use std::sync::Wait;
 use std::test::Fail;
@@ -50,5 +51,35 @@ fn a_file_above_the_limit_gives_7(rt: HostRuntime) -> Result<(), Fail> {
     let (status, sink) = run_file(&rt, "/dev/zero")?;
     assert_eq!(rt; status, 7);
     assert_eq!(rt; sink.bytes(), b"fault 7 too long /dev/zero\n".as_slice());
+    Ok(())
+}
+
+// The file is made in the folder where the tests run, and removed at the end.
+#[test]
+fn a_file_that_is_put_is_fetched_with_its_last_bytes(rt: HostRuntime) -> Result<(), Fail> {
+    let name = "put-by-a-test.txt";
+    let mut shelf = FileShelf::new(&rt);
+    let mut into = Vec::new(rt.alloc());
+    assert_eq!(rt; shelf.put(name, b"some bytes"), Ok(()));
+    assert_eq!(rt; shelf.fetch(name, &mut into, 64), Ok(()));
+    assert_eq!(rt; into.as_slice(), b"some bytes".as_slice());
+    assert_eq!(rt; shelf.put(name, b"few"), Ok(()));
+    assert_eq!(rt; shelf.fetch(name, &mut into, 64), Ok(()));
+    assert_eq!(rt; into.as_slice(), b"few".as_slice());
+    fs::remove_file(&rt, name)?;
+    assert_eq!(rt; shelf.fetch(name, &mut into, 64), Err(FetchFault::Missing));
+    Ok(())
+}
+
+// No bytes can be written to a folder, in a folder that isn't there, or to the special file that is always full.
+#[test]
+fn what_cannot_be_written_fails(rt: HostRuntime) -> Result<(), Fail> {
+    let mut shelf = FileShelf::new(&rt);
+    assert_eq!(rt; shelf.put(".", b"abc"), Err(PutFault::Failed));
+    assert_eq!(rt;
+        shelf.put("no such folder/a.txt", b"abc"),
+        Err(PutFault::Failed)
+    );
+    assert_eq!(rt; shelf.put("/dev/full", b"abc"), Err(PutFault::Failed));
     Ok(())
 }

@@ -1,2 +1,3 @@
 pub mod SessionSteps
 pub mod RoundSteps
+pub mod PutFiles

@@ -1,7 +1,9 @@
--- What a shelf gives, and what a sink takes.
-use Rattle.std.specs.Prelude.{◌≡◌, ℕ, ◌<◌, ◌≤◌, List, [], ◌++◌, length, take, Option, Some, None, IfSome, IsSomeAnd, Result, Ok, Err}
+-- What a shelf gives, what a put leaves, and what a sink takes.
+use Rattle.std.specs.Prelude.{◌≡◌, ◌≢◌, ℕ, ◌<◌, ◌≤◌, List, [], ◌++◌, length, take, Option, Some, None, IfSome, IsSomeAnd, Result, Ok, Err}
 use Rattle.reg_session.specs.declared.shelf.FetchFault.{FetchFault}
 use Rattle.reg_session.specs.declared.shelf.FetchFault.TheVariants as faults
+use Rattle.reg_session.specs.declared.shelf.PutFault.{PutFault}
+use Rattle.reg_session.specs.declared.shelf.PutFault.TheVariants as puts
 use Rattle.reg_session.specs.declared.sink.Failed.{Failed}
 
 -- a map from names to bytes
@@ -24,6 +26,18 @@ FetchLeaves limit (Err fault) bytes = bytes ≡ []
 pub record FetchGives (files : Option Files) (name : List ℕ) (limit : ℕ) (result : Result (Unit {0}) FetchFault) (bytes : List ℕ) : Type 0 where
   pub told : IfSome files (λ (map : Files). FetchTells (map name) limit result bytes)
   pub left : FetchLeaves limit result bytes
+
+-- two maps have the same at every name but this one
+abbrev pub Elsewhere : Files → Files → List ℕ → Type 0
+Elsewhere before after name = (other : List ℕ) → other ≢ name → after other ≡ before other
+
+-- What a put leaves. After Ok the name has the bytes, and every other name what it had; after Failed every other name has what it had,
+-- and what this one has isn't told; where memory is wanting, all is as it was.
+abbrev pub PutTells : Option Files → Option Files → List ℕ → List ℕ → Result (Unit {0}) PutFault → Type 0
+PutTells before after name bytes (Ok _) =
+    IfSome before (λ (map : Files). IsSomeAnd after (λ (left : Files). (left name ≡ Some bytes) × Elsewhere map left name))
+PutTells before after name bytes (Err puts.Failed) = IfSome before (λ (map : Files). IsSomeAnd after (λ (left : Files). Elsewhere map left name))
+PutTells before after name bytes (Err puts.NoMemory) = after ≡ before
 
 -- a sink that answers Ok took at least one byte of a piece, the first ones; one that fails took none
 abbrev pub TakesFront : Option (List ℕ) → Option (List ℕ) → List ℕ → Result ℕ Failed → Type 0

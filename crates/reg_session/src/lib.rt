@@ -4,9 +4,10 @@
 //! It stands on `reg_model`, and serves over any `Desk` of it. `serve` makes the calls of one session, `run_round` those of
 //! all sessions of a round; a [`Gate`] may hold sessions back, and [`Seals`] keeps what is left of rounds.
 //! `specs/Sessions.antt` says what they do. `reg_top` is written over the traits [`Shelf`] and [`Sink`]; `iscc_registry` has
-//! the real ones, and tests use those in memory here. A [`Shelf`] is a map from names to bytes and a count of failed fetches,
-//! a [`Sink`] the bytes that it took and a count of failed writes. `specs/Faults.antt` says what such a count tells,
-//! `specs/Files.antt` what a fetch gives and a sink takes, `specs/Shelves.antt` and `specs/Sinks.antt` what those in memory do.
+//! the real ones, and tests use those in memory here. A [`Shelf`] is a map from names to bytes and two counts, of failed fetches
+//! and of failed puts, a [`Sink`] the bytes that it took and a count of failed writes. `specs/Faults.antt` says what such a
+//! count tells, `specs/Files.antt` what a fetch gives, what a put leaves and what a sink takes, `specs/Shelves.antt` and
+//! `specs/Sinks.antt` what those in memory do.
 #![tactic(auto)]
 
 mod gate;
@@ -26,7 +27,7 @@ pub use list_sink::ListSink;
 pub use rounds::{RoundFault, run_round};
 pub use seals::Seals;
 pub use session::serve;
-pub use shelf::{FetchFault, Shelf};
+pub use shelf::{FetchFault, PutFault, Shelf};
 pub use sink::{Failed, Sink};
 pub use sure_shelf::SureShelf;
 pub use sure_sink::SureSink;

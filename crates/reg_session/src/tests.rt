@@ -34,6 +34,36 @@ fn a_listed_shelf_fails_at_the_listed_calls(rt: HostRuntime) -> Result<(), Fail>
 }
 
 #[test]
+fn a_put_replaces_the_bytes_of_a_file_or_adds_one(rt: HostRuntime) -> Result<(), Fail> {
+    let mut shelf = ListShelf::new(one_file(rt.alloc())?, Vec::new(rt.alloc()));
+    assert_eq!(rt; shelf.put("a.txt", b"d"), Ok(()));
+    assert_eq!(rt; shelf.put("b.txt", b"xyz"), Ok(()));
+    assert_eq!(rt; shelf.file("a.txt"), Some(b"d".as_slice()));
+    assert_eq!(rt; shelf.file("b.txt"), Some(b"xyz".as_slice()));
+    let mut sure = SureShelf::new(one_file(rt.alloc())?);
+    assert_eq!(rt; sure.put("b.txt", b""), Ok(()));
+    assert_eq!(rt; sure.put("a.txt", b"longer"), Ok(()));
+    assert_eq!(rt; sure.file("a.txt"), Some(b"longer".as_slice()));
+    assert_eq!(rt; sure.file("b.txt"), Some(b"".as_slice()));
+    Ok(())
+}
+
+#[test]
+fn calls_are_counted_over_fetches_and_puts(rt: HostRuntime) -> Result<(), Fail> {
+    let fail = Vec::from_slice(rt.alloc(), &[1, 2])?;
+    let mut shelf = ListShelf::new(one_file(rt.alloc())?, fail);
+    let mut into = Vec::new(rt.alloc());
+    assert_eq!(rt; shelf.fetch("a.txt", &mut into, 3), Ok(()));
+    assert_eq!(rt; shelf.put("a.txt", b"d"), Err(PutFault::Failed));
+    assert_eq!(rt; shelf.fetch("a.txt", &mut into, 3), Err(FetchFault::Failed));
+    assert_eq!(rt; shelf.file("a.txt"), Some(b"abc".as_slice()));
+    assert_eq!(rt; shelf.put("a.txt", b"d"), Ok(()));
+    assert_eq!(rt; shelf.fetch("a.txt", &mut into, 3), Ok(()));
+    assert_eq!(rt; into.as_slice(), b"d".as_slice());
+    Ok(())
+}
+
+#[test]
 fn a_sure_shelf_gives_what_it_has(rt: HostRuntime) -> Result<(), Fail> {
     let mut shelf = SureShelf::new(one_file(rt.alloc())?);
     let mut into = Vec::new(rt.alloc());

@@ -29,7 +29,8 @@ mod write;
 pub use args::Args;
 pub use laws::{a_command_line_has_one_command, words_of_lone_sessions_have_one_output};
 pub use reg_session::{
-    Failed, FetchFault, Gate, ListShelf, ListSink, NoGate, Seals, Shelf, Sink, SureShelf, SureSink,
+    Failed, FetchFault, Gate, ListShelf, ListSink, NoGate, PutFault, Seals, Shelf, Sink, SureShelf,
+    SureSink,
 };
 pub use served::{Served, no_seals};
 pub use side_commands::side;

@@ -1,0 +1,4 @@
+pub mod Images
+pub mod ImageFaults
+pub mod Laws
+pub mod inner
