@@ -1,7 +1,7 @@
 ghost use Rattle.std.specs.Prelude.{◌≡◌, [], List, IfOk, Err};
 ghost use Rattle.std.specs.Process.{exit_status};
 ghost use Rattle.reg_model.specs.Runs.{RoundRows};
-ghost use Rattle.reg_session.specs.Outside.{outside};
+ghost use Rattle.reg_session.specs.Outside.{outside, shelf_view, sink_view};
 ghost use Rattle.reg_top.specs.Outcomes.{IsOutcome};
 
 use reg_top::{Args, NoGate, Shelf, Sink, no_seals, top};
@@ -31,13 +31,13 @@ pub(crate) fn exit_with<F: Shelf, K: Sink, R: Threads + Wait + Sync>(
     sink: &mut K,
 ) -> ExitCode
     ensures served { IfOk words (λ words. (served : List RoundRows) × IsOutcome words
-        (outside (F.files shelf.old) (F.fetch_faults shelf.old) (K.taken sink.old) (K.faults sink.old))
-        (outside (F.files shelf.new) (F.fetch_faults shelf.new) (K.taken sink.new) (K.faults sink.new)) served (exit_status result)) }
+        (outside (shelf_view (F.files shelf.old) (F.fetch_faults shelf.old) (F.put_faults shelf.old)) (sink_view (K.taken sink.old) (K.faults sink.old)))
+        (outside (shelf_view (F.files shelf.new) (F.fetch_faults shelf.new) (F.put_faults shelf.new)) (sink_view (K.taken sink.new) (K.faults sink.new))) served (exit_status result)) }
 
     // Words that are no text are of no form, as no words are.
     ensures no_text { words ≡ Err NoWords.NoText → (served : List RoundRows) × IsOutcome []
-        (outside (F.files shelf.old) (F.fetch_faults shelf.old) (K.taken sink.old) (K.faults sink.old))
-        (outside (F.files shelf.new) (F.fetch_faults shelf.new) (K.taken sink.new) (K.faults sink.new)) served (exit_status result) }
+        (outside (shelf_view (F.files shelf.old) (F.fetch_faults shelf.old) (F.put_faults shelf.old)) (sink_view (K.taken sink.old) (K.faults sink.old)))
+        (outside (shelf_view (F.files shelf.new) (F.fetch_faults shelf.new) (F.put_faults shelf.new)) (sink_view (K.taken sink.new) (K.faults sink.new))) served (exit_status result) }
     ensures no_memory { words ≡ Err NoWords.NoMemory → (exit_status result ≡ 6) × (shelf.new ≡ shelf.old) × (sink.new ≡ sink.old) }
 {
     let words = match words {

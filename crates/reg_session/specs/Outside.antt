@@ -3,10 +3,11 @@ use Rattle.std.specs.Prelude.{◌≡◌, ℕ, List, ◌++◌, Option, Some, IfSo
 use Rattle.reg_session.specs.Faults.{Quiet}
 use Rattle.reg_session.specs.Files.{Files}
 
--- the files that a shelf tells, and how many of its fetches failed
+-- the files that a shelf tells, and how many of its fetches and of its puts failed
 pub record ShelfView : Type 0 where
   pub files : Option Files
-  pub faults : ℕ
+  pub fetch_faults : ℕ
+  pub put_faults : ℕ
 
 -- the bytes that a sink tells to have taken, and how many of its calls failed
 pub record SinkView : Type 0 where
@@ -17,12 +18,14 @@ pub record Outside : Type 0 where
   pub shelf : ShelfView
   pub sink : SinkView
 
+abbrev pub shelf_view : Option Files → ℕ → ℕ → ShelfView
+shelf_view files fetch_faults put_faults = record { files = files; fetch_faults = fetch_faults; put_faults = put_faults }
+
 abbrev pub sink_view : Option (List ℕ) → ℕ → SinkView
 sink_view taken faults = record { taken = taken; faults = faults }
 
--- the files and the count of a shelf, and the bytes and the count of a sink
-abbrev pub outside : Option Files → ℕ → Option (List ℕ) → ℕ → Outside
-outside files fetch_faults taken faults = record { shelf = record { files = files; faults = fetch_faults }; sink = sink_view taken faults }
+abbrev pub outside : ShelfView → SinkView → Outside
+outside shelf sink = record { shelf = shelf; sink = sink }
 
 -- a sink that tells its bytes has taken these after those that it had
 abbrev pub TakesWhole : Option (List ℕ) → Option (List ℕ) → List ℕ → Type 0

@@ -1,7 +1,8 @@
 -- From the end of a command to its status, and to what each status says.
-use Rattle.std.proofs.Common.{ap, ◌≡◌, ◌⊎◌, inl, inr, ℕ, ◌<◌, ◌≤◌, suc, List, [], ◌∷◌, ◌++◌, length, Option, Some, None, refl, sym, ◌∙◌, subst, arith, lit<, lit≤}
+use Rattle.std.proofs.Common.{ap, ◌≡◌, ◌≢◌, ◌⊎◌, inl, inr, ℕ, ◌<◌, ◌≤◌, suc, List, [], ◌∷◌, ◌++◌, length, Option, Some, None, refl, sym, ◌∙◌, subst, arith, lit<, lit≤}
 use Rattle.std.specs.Prelude.{IfSome, IsSomeAnd, Contains, All}
-use Rattle.reg_model.specs.Runs.{RoundRows, nothing}
+use Rattle.std.proofs.lemmas.Option.{none-some}
+use Rattle.reg_model.specs.Runs.{RoundRows}
 use Rattle.reg_model.proofs.RowSteps.{IfSome-weaker}
 use Rattle.reg_session.specs.declared.shelf.FetchFault.{FetchFault}
 use Rattle.reg_session.specs.declared.shelf.FetchFault.TheVariants as faults
@@ -12,7 +13,7 @@ use Rattle.reg_top.specs.declared.ending.Ending.{Ending}
 use Rattle.reg_top.specs.declared.ending.Ending.TheVariants as endings
 use Rattle.reg_top.specs.declared.refusal.Refusal.{Refusal}
 use Rattle.reg_top.specs.declared.refusal.Refusal.TheVariants as refusals
-use Rattle.reg_top.specs.Fetches.{Command, Fetch, fetches}
+use Rattle.reg_top.specs.Fetches.{Command, Fetch, fetches, saved_name}
 use Rattle.reg_top.specs.Fetches.Command.{Run, Explain, Compose, Instance, Check}
 use Rattle.reg_top.specs.commands.Compose.{RefusesTexts}
 use Rattle.reg_top.specs.commands.Check.{RefusesHistory}
@@ -20,9 +21,9 @@ use Rattle.reg_top.specs.Dispatch.{Refuses}
 use Rattle.reg_top.specs.Words.{IsForm}
 use Rattle.reg_top.specs.FaultLines.{words_line, missing_line, long_line, memory_line, refusal_number}
 use Rattle.reg_top.specs.Outcomes.{GivenBy, IsHeld, IsMissing, IsTooLong, IsReached, IsGiven, HasNoForm, IsFileStatus, EndsWith, statuses, IsServedStatus, IsOutcome}
-use Rattle.reg_top.specs.inner.Endings.{ending_number, unread_number, UnreadWhy, GivesNone, EndsDone, EndsUnwritten, EndsRefused, Ends, IsServedEnding}
+use Rattle.reg_top.specs.inner.Endings.{ending_number, unread_number, UnreadWhy, Untouched, GivesNone, EndsDone, EndsUnwritten, EndsUnsaved, EndsRefused, Ends, IsServedEnding}
 use Rattle.reg_top.proofs.Forms.{one_form}
-use Rattle.reg_top.proofs.RoundRefusals.{one_round_refused}
+use Rattle.reg_top.proofs.RoundRefusals.{one_run_number}
 
 -- ---- counts of faults
 
@@ -154,18 +155,20 @@ late_number command before after first status number Fault line_of other none un
 
 done_with : (command : Command) (before after : Outside) (served : List RoundRows) → EndsDone command before after served → EndsWith command before after served 0
 done_with command before after served ends = record {
-  done = λ _. given_weaker (fetches command) before.shelf.files _ _ (λ files made. (ends.output, made.is, ends.takes)) ends.made;
+  done = λ _. (given_weaker (fetches command) before.shelf.files _ _ (λ files made. (ends.output, made.is, ends.takes)) ends.made, ends.saved.saves);
   missing = other_number command before after 0 3 IsMissing missing_line (λ is. omega (arith, is)) missing_unheld ends.fetched.held;
   too_long = other_number command before after 0 7 IsTooLong long_line (λ is. omega (arith, is)) long_unheld ends.fetched.held;
   read = λ is. absurd (omega (arith, is));
-  failed = λ less. absurd (not_less before.shelf.faults after.shelf.faults ends.fetched.quiet less);
+  failed = λ less. absurd (not_less before.shelf.fetch_faults after.shelf.fetch_faults ends.fetched.quiet less);
   refused = λ number. absurd (omega (arith, number.0));
   refuses = λ refusal given why. absurd (
       given_both (fetches command) before.shelf.files _ _ _ ⊥ (known_of command before after given) ends.made why (λ files made refuses. made.unrefused refusal refuses)
       );
   unwritten = λ is. absurd (omega (arith, is));
+  unsaved = λ less. absurd (not_less before.shelf.put_faults after.shelf.put_faults ends.saved.puts less);
+  kept = ends.saved.kept;
   memory = λ is. absurd (omega (arith, is));
-  complete = λ given quiet none. inl refl;
+  complete = λ given quiet puts none. inl refl;
 }
 
 unwritten_with : (command : Command) (before after : Outside) (served : List RoundRows) → EndsUnwritten command before after served → EndsWith command before after served 5
@@ -174,18 +177,58 @@ unwritten_with command before after served ends = record {
   missing = other_number command before after 5 3 IsMissing missing_line (λ is. omega (arith, is)) missing_unheld ends.fetched.held;
   too_long = other_number command before after 5 7 IsTooLong long_line (λ is. omega (arith, is)) long_unheld ends.fetched.held;
   read = λ is. absurd (omega (arith, is));
-  failed = λ less. absurd (not_less before.shelf.faults after.shelf.faults ends.fetched.quiet less);
+  failed = λ less. absurd (not_less before.shelf.fetch_faults after.shelf.fetch_faults ends.fetched.quiet less);
   refused = λ number. absurd (omega (arith, number.0));
   refuses = λ refusal given why. absurd (
       given_both (fetches command) before.shelf.files _ _ _ ⊥ (known_of command before after given) ends.made why (λ files made refuses. made.unrefused refusal refuses)
       );
-  unwritten = λ _. (ends.rose, given_weaker (fetches command) before.shelf.files _ _ (λ files made. (ends.output, made.is, ends.takes)) ends.made);
+  unwritten = λ _. inr (record {
+    rose = ends.rose;
+    front = given_weaker (fetches command) before.shelf.files _ _ (λ files made. (ends.output, made.is, ends.takes)) ends.made;
+    saved = ends.saved.saves;
+    quiet = ends.saved.puts;
+  });
+  unsaved = λ _. refl;
+  kept = ends.saved.kept;
   memory = λ is. absurd (omega (arith, is));
-  complete = λ given quiet none. absurd (not_quiet before.sink.faults after.sink.faults quiet ends.rose);
+  complete = λ given quiet puts none. absurd (not_quiet before.sink.faults after.sink.faults quiet ends.rose);
 }
 
-short_with : (command : Command) (before after : Outside) (served : List RoundRows) → (Tells before.sink after.sink memory_line) → EndsWith command before after served 6
-short_with command before after served told = record {
+-- no name is to be saved, or its put was quiet
+named_quiet : (name : Option (List ℕ)) (at : List ℕ) (before now : ℕ) → name ≡ Some at → IfSome name (λ n. Quiet before now) → Quiet before now
+named_quiet name at before now named quiet = subst (λ (o : Option (List ℕ)). IfSome o (λ n. Quiet before now)) named quiet
+
+unsaved_with : (command : Command) (before after : Outside) (served : List RoundRows) → EndsUnsaved command before after served → EndsWith command before after served 5
+unsaved_with command before after served ends = record {
+  done = λ is. absurd (omega (arith, is));
+  missing = other_number command before after 5 3 IsMissing missing_line (λ is. omega (arith, is)) missing_unheld ends.fetched.held;
+  too_long = other_number command before after 5 7 IsTooLong long_line (λ is. omega (arith, is)) long_unheld ends.fetched.held;
+  read = λ is. absurd (omega (arith, is));
+  failed = λ less. absurd (not_less before.shelf.fetch_faults after.shelf.fetch_faults ends.fetched.quiet less);
+  refused = λ number. absurd (omega (arith, number.0));
+  refuses = λ refusal given why. absurd (
+      given_both (fetches command) before.shelf.files _ _ _ ⊥ (known_of command before after given) ends.made why (λ files made refuses. made.unrefused refusal refuses)
+      );
+  unwritten = λ _. inl (record {
+    name = ends.name;
+    named = ends.named;
+    rose = ends.rose;
+    made = given_weaker (fetches command) before.shelf.files _ _ (λ files made. (ends.output, made.is)) ends.made;
+    elsewhere = ends.elsewhere;
+    told = ends.told;
+  });
+  unsaved = λ _. refl;
+  kept = λ none. absurd (none-some ends.name (sym none ∙ ends.named));
+  memory = λ is. absurd (omega (arith, is));
+  complete = λ given quiet puts none. absurd (
+      not_quiet before.shelf.put_faults after.shelf.put_faults
+      (named_quiet (saved_name command) ends.name before.shelf.put_faults after.shelf.put_faults ends.named puts) ends.rose
+      );
+}
+
+short_with : (command : Command) (before after : Outside) (served : List RoundRows) → Untouched before after → Tells before.sink after.sink memory_line
+    → EndsWith command before after served 6
+short_with command before after served untouched told = record {
   done = λ is. absurd (omega (arith, is));
   missing = short_number command before after 3 IsMissing missing_line (λ is. omega (arith, is));
   too_long = short_number command before after 7 IsTooLong long_line (λ is. omega (arith, is));
@@ -194,8 +237,10 @@ short_with command before after served told = record {
   refused = λ number. absurd (omega (arith, number.0));
   refuses = λ refusal given why. inr refl;
   unwritten = λ is. absurd (omega (arith, is));
+  unsaved = λ less. absurd (not_less before.shelf.put_faults after.shelf.put_faults untouched.puts less);
+  kept = λ _. untouched.files;
   memory = λ _. told;
-  complete = λ given quiet none. inr refl;
+  complete = λ given quiet puts none. inr refl;
 }
 
 -- ---- refusals
@@ -207,6 +252,7 @@ is_high (refusals.Word at why) = (lit≤ tt, lit≤ tt)
 is_high (refusals.Units fault) = (lit≤ tt, lit≤ tt)
 is_high refusals.NoHistory = (lit≤ tt, lit≤ tt)
 is_high (refusals.Line fault) = (lit≤ tt, lit≤ tt)
+is_high (refusals.Image fault) = (lit≤ tt, lit≤ tt)
 is_high (refusals.TooSmall round live entries) = (lit≤ tt, lit≤ tt)
 is_high (refusals.IdsSpent round base log) = (lit≤ tt, lit≤ tt)
 
@@ -220,7 +266,7 @@ history_number name files refusal refuses = elim refuses [ inl none ↦ ap refus
 -- what a command refuses it refuses with one number
 one_number : (command : Command) (files : Files) (served : List RoundRows) (a b : Refusal) → Refuses command files served a → Refuses command files served b
     → refusal_number a ≡ refusal_number b
-one_number (Run plan) files served a b one other = ap refusal_number (one_round_refused nothing plan served a b one.after other.after)
+one_number (Run plan) files served a b one other = one_run_number plan files served a b one other
 one_number (Explain text) files served a b one other = ap refusal_number one.is ∙ sym (ap refusal_number other.is)
 one_number (Compose texts) files served a b one other = texts_number texts a one ∙ sym (texts_number texts b other)
 one_number (Instance name) files served a b one other = absurd one
@@ -235,15 +281,17 @@ refused_with command before after served refusal ends =
       missing = other_number command before after _ 3 IsMissing missing_line (λ is. omega (arith, high.0, is)) missing_unheld ends.fetched.held;
       too_long = other_number command before after _ 7 IsTooLong long_line (λ is. omega (arith, high.0, is)) long_unheld ends.fetched.held;
       read = λ is. absurd (omega (arith, high.0, is));
-      failed = λ less. absurd (not_less before.shelf.faults after.shelf.faults ends.fetched.quiet less);
+      failed = λ less. absurd (not_less before.shelf.fetch_faults after.shelf.fetch_faults ends.fetched.quiet less);
       refused = λ number. record { refusal = refusal; number = refl; why = ends.why; rounds = ends.rounds; fetched = ends.fetched.held; quiet = ends.fetched.quiet; told = ends.told };
       refuses = λ other given why. inl (
           given_both (fetches command) before.shelf.files _ _ _ _ (known_of command before after given) ends.why why
           (λ files mine theirs. one_number command files served refusal other mine theirs)
           );
       unwritten = λ is. absurd (omega (arith, high.0, is));
+      unsaved = λ less. absurd (not_less before.shelf.put_faults after.shelf.put_faults ends.untouched.puts less);
+      kept = λ _. ends.untouched.files;
       memory = λ is. absurd (omega (arith, high.0, is));
-      complete = λ given quiet none. absurd (none refusal ends.why);
+      complete = λ given quiet puts none. absurd (none refusal ends.why);
     }
 
 -- neither 3 nor 7
@@ -252,7 +300,7 @@ not_file number other file three seven is = elim file [ inl a ↦ three (sym is 
 
 -- the first file that gave no bytes isn't there, or is too long
 unheld_with : (command : Command) (before after : Outside) (served : List RoundRows) (fault : FetchFault) (number : ℕ)
-    → (number ≡ 3) ⊎ (number ≡ 7) → GivesNone command before after fault → after.shelf.faults ≡ before.shelf.faults
+    → (number ≡ 3) ⊎ (number ≡ 7) → GivesNone command before after fault → after.shelf.fetch_faults ≡ before.shelf.fetch_faults
     → ((files : Files) (fetch : Fetch) → UnreadWhy fault files fetch → IsHeld files fetch → ⊥)
     → IsFileStatus command before after number 3 IsMissing missing_line → IsFileStatus command before after number 7 IsTooLong long_line
     → EndsWith command before after served number
@@ -261,18 +309,20 @@ unheld_with command before after served fault number file none quiet unheld miss
   missing = missing;
   too_long = too_long;
   read = λ is. absurd (not_file number 4 file (λ e. cc) (λ e. cc) is);
-  failed = λ less. absurd (not_less before.shelf.faults after.shelf.faults quiet less);
+  failed = λ less. absurd (not_less before.shelf.fetch_faults after.shelf.fetch_faults quiet less);
   refused = λ high. absurd (elim file [ inl a ↦ omega (arith, high.0, a) | inr a ↦ omega (arith, high.0, a) ]);
   refuses = λ refusal given why. absurd (unread_given command before after fault none unheld given);
   unwritten = λ is. absurd (not_file number 5 file (λ e. cc) (λ e. cc) is);
+  unsaved = λ less. absurd (not_less before.shelf.put_faults after.shelf.put_faults none.untouched.puts less);
+  kept = λ _. none.untouched.files;
   memory = λ is. absurd (not_file number 6 file (λ e. cc) (λ e. cc) is);
-  complete = λ given quiet_sink free. absurd (unread_given command before after fault none unheld given);
+  complete = λ given quiet_sink puts free. absurd (unread_given command before after fault none unheld given);
 }
 
 -- the status of the first file that gave no bytes, where that is its fault
 file_told : (command : Command) (before after : Outside) (number : ℕ) (Fault : Files → Fetch → Type 0) (line_of : List ℕ → List ℕ) (fetch : Fetch)
     → Contains (fetches command) fetch → IfSome before.shelf.files (λ files. IsReached command files fetch × Fault files fetch)
-    → after.shelf.faults ≡ before.shelf.faults → Tells before.sink after.sink (line_of fetch.name) → IsFileStatus command before after number number Fault line_of
+    → after.shelf.fetch_faults ≡ before.shelf.fetch_faults → Tells before.sink after.sink (line_of fetch.name) → IsFileStatus command before after number number Fault line_of
 file_told command before after number Fault line_of fetch one why quiet told = record {
   only = λ _. record { fetch = fetch; one = one; fault = why; quiet = quiet; told = told };
   where_it_holds = λ _. always _ (λ files other reached fault. inl refl) before.shelf.files;
@@ -281,19 +331,19 @@ file_told command before after number Fault line_of fetch one why quiet told = r
 unread_with : (command : Command) (before after : Outside) (served : List RoundRows) (fault : FetchFault) → GivesNone command before after fault
     → EndsWith command before after served (unread_number fault)
 unread_with command before after served faults.Missing none =
-    let quiet : after.shelf.faults ≡ before.shelf.faults = none.cause.kept (λ is. cc) in
+    let quiet : after.shelf.fetch_faults ≡ before.shelf.fetch_faults = none.cause.kept (λ is. cc) in
     unheld_with command before after served faults.Missing 3 (inl refl) none quiet missing_unheld
     (file_told command before after 3 IsMissing missing_line none.fetch none.one none.why quiet none.told)
     (late_number command before after faults.Missing 3 7 IsTooLong long_line (λ is. omega (arith, is)) none missing_unheld long_unheld not_both)
 unread_with command before after served faults.TooLong none =
-    let quiet : after.shelf.faults ≡ before.shelf.faults = none.cause.kept (λ is. cc) in
+    let quiet : after.shelf.fetch_faults ≡ before.shelf.fetch_faults = none.cause.kept (λ is. cc) in
     unheld_with command before after served faults.TooLong 7 (inr refl) none quiet long_unheld
     (late_number command before after faults.TooLong 7 3 IsMissing missing_line (λ is. omega (arith, is)) none long_unheld missing_unheld
     (λ files fetch long missing. not_both files fetch missing long))
     (file_told command before after 7 IsTooLong long_line none.fetch none.one none.why quiet none.told)
 unread_with command before after served faults.Failed none =
-    let rose : Rose before.shelf.faults after.shelf.faults = none.cause.failed refl in
-    let loud : Quiet before.shelf.faults after.shelf.faults → ⊥ = λ quiet. not_quiet before.shelf.faults after.shelf.faults quiet rose in
+    let rose : Rose before.shelf.fetch_faults after.shelf.fetch_faults = none.cause.failed refl in
+    let loud : Quiet before.shelf.fetch_faults after.shelf.fetch_faults → ⊥ = λ quiet. not_quiet before.shelf.fetch_faults after.shelf.fetch_faults quiet rose in
     let ungiven : IsGiven command before after → ⊥ =
     λ given. elim given [ inl nothing ↦ none_in (fetches command) none.fetch nothing none.one | inr both ↦ loud both.1 ] in
     record {
@@ -311,10 +361,12 @@ unread_with command before after served faults.Failed none =
       refused = λ number. absurd (omega (arith, number.0));
       refuses = λ refusal given why. absurd (ungiven given);
       unwritten = λ is. absurd (omega (arith, is));
+      unsaved = λ less. absurd (not_less before.shelf.put_faults after.shelf.put_faults none.untouched.puts less);
+      kept = λ _. none.untouched.files;
       memory = λ is. absurd (omega (arith, is));
-      complete = λ given quiet_sink free. absurd (ungiven given);
+      complete = λ given quiet_sink puts free. absurd (ungiven given);
     }
-unread_with command before after served faults.NoMemory none = short_with command before after served none.told
+unread_with command before after served faults.NoMemory none = short_with command before after served none.untouched none.told
 
 pub ends_with : (command : Command) (before after : Outside) (served : List RoundRows) (ending : Ending) → Ends command before after served ending
     → EndsWith command before after served (ending_number ending)
@@ -322,19 +374,21 @@ ends_with command before after served endings.Done ends = done_with command befo
 ends_with command before after served (endings.Unread fault) ends = unread_with command before after served fault ends
 ends_with command before after served (endings.Refused refusal) ends = refused_with command before after served refusal ends
 ends_with command before after served endings.Unwritten ends = unwritten_with command before after served ends
-ends_with command before after served endings.NoMemory ends = short_with command before after served ends.told
+ends_with command before after served endings.Unsaved ends = unsaved_with command before after served ends
+ends_with command before after served endings.NoMemory ends = short_with command before after served ends.untouched ends.told
 
 -- ---- the outcome of a call
 
 -- each status is one of those there are
 known_refusal : (refusal : Refusal) → Contains statuses (refusal_number refusal)
-known_refusal (refusals.Text fault) = (8, lit< tt, refl)
-known_refusal (refusals.Word at why) = (8, lit< tt, refl)
-known_refusal (refusals.Units fault) = (8, lit< tt, refl)
-known_refusal refusals.NoHistory = (8, lit< tt, refl)
-known_refusal (refusals.Line fault) = (8, lit< tt, refl)
+known_refusal (refusals.Text fault) = (9, lit< tt, refl)
+known_refusal (refusals.Word at why) = (9, lit< tt, refl)
+known_refusal (refusals.Units fault) = (9, lit< tt, refl)
+known_refusal refusals.NoHistory = (9, lit< tt, refl)
+known_refusal (refusals.Line fault) = (9, lit< tt, refl)
+known_refusal (refusals.Image fault) = (8, lit< tt, refl)
 known_refusal (refusals.TooSmall round live entries) = (7, lit< tt, refl)
-known_refusal (refusals.IdsSpent round base log) = (9, lit< tt, refl)
+known_refusal (refusals.IdsSpent round base log) = (10, lit< tt, refl)
 
 is_known : (ending : Ending) → Contains statuses (ending_number ending)
 is_known endings.Done = (0, lit< tt, refl)
@@ -344,6 +398,7 @@ is_known (endings.Unread faults.TooLong) = (6, lit< tt, refl)
 is_known (endings.Unread faults.NoMemory) = (5, lit< tt, refl)
 is_known (endings.Refused refusal) = known_refusal refusal
 is_known endings.Unwritten = (4, lit< tt, refl)
+is_known endings.Unsaved = (4, lit< tt, refl)
 is_known endings.NoMemory = (5, lit< tt, refl)
 
 -- and 2 is that of no ending
@@ -355,18 +410,8 @@ not_words (endings.Unread faults.TooLong) is = omega (arith, is)
 not_words (endings.Unread faults.NoMemory) is = omega (arith, is)
 not_words (endings.Refused refusal) is = let high = is_high refusal in omega (arith, high.0, is)
 not_words endings.Unwritten is = omega (arith, is)
+not_words endings.Unsaved is = omega (arith, is)
 not_words endings.NoMemory is = omega (arith, is)
-
--- status 0 is that of a command that is done
-pub done_at_zero : (ending : Ending) → ending_number ending ≡ 0 → ending ≡ endings.Done
-done_at_zero endings.Done is = refl
-done_at_zero (endings.Unread faults.Missing) is = absurd (omega (arith, is))
-done_at_zero (endings.Unread faults.Failed) is = absurd (omega (arith, is))
-done_at_zero (endings.Unread faults.TooLong) is = absurd (omega (arith, is))
-done_at_zero (endings.Unread faults.NoMemory) is = absurd (omega (arith, is))
-done_at_zero (endings.Refused refusal) is = let high = is_high refusal in absurd (omega (arith, high.0, is))
-done_at_zero endings.Unwritten is = absurd (omega (arith, is))
-done_at_zero endings.NoMemory is = absurd (omega (arith, is))
 
 -- a number from 8 to 12, or 0, is that of no other ending
 unserved : (number : ℕ) → 1 ≤ number → number ≤ 7 → IsServedStatus number → ⊥
@@ -381,17 +426,28 @@ served_at (endings.Unread faults.TooLong) is = unserved 7 (lit≤ tt) (lit≤ tt
 served_at (endings.Unread faults.NoMemory) is = unserved 6 (lit≤ tt) (lit≤ tt) is
 served_at (endings.Refused refusal) is = tt
 served_at endings.Unwritten is = unserved 5 (lit≤ tt) (lit≤ tt) is
+served_at endings.Unsaved is = unserved 5 (lit≤ tt) (lit≤ tt) is
 served_at endings.NoMemory is = unserved 6 (lit≤ tt) (lit≤ tt) is
+
+-- files are put only where all is done, or not all is written
+same_files : (command : Command) (before after : Outside) (served : List RoundRows) (ending : Ending) → Ends command before after served ending
+    → ending_number ending ≢ 0 → ending_number ending ≢ 5 → after.shelf.files ≡ before.shelf.files
+same_files command before after served endings.Done ends none part = absurd (none refl)
+same_files command before after served (endings.Unread fault) ends none part = ends.untouched.files
+same_files command before after served (endings.Refused refusal) ends none part = ends.untouched.files
+same_files command before after served endings.Unwritten ends none part = absurd (part refl)
+same_files command before after served endings.Unsaved ends none part = absurd (part refl)
+same_files command before after served endings.NoMemory ends none part = ends.untouched.files
 
 -- of words that are of a form
 pub command_outcome : (words : List (List ℕ)) (command : Command) (before after : Outside) (served : List RoundRows) (ending : Ending) → IsForm words command
-    → after.shelf.files ≡ before.shelf.files → Ends command before after served ending → IsOutcome words before after served (ending_number ending)
-command_outcome words command before after served ending form same ends = record {
+    → Ends command before after served ending → IsOutcome words before after served (ending_number ending)
+command_outcome words command before after served ending form ends = record {
   no_form = ((λ two. absurd (not_words ending two)), λ none. absurd (none command form));
   words_told = λ two. absurd (not_words ending two);
   ends = λ other is. subst (λ c. EndsWith c before after served (ending_number ending)) (one_form words command other form is) (ends_with command before after served ending ends);
   known = is_known ending;
-  same = same;
+  same = same_files command before after served ending ends;
 }
 
 -- of words that are of none
@@ -402,5 +458,5 @@ words_outcome words before after served none same told = record {
   words_told = λ _. (same, told);
   ends = λ command form. absurd (none command form);
   known = (1, lit< tt, refl);
-  same = ap (λ (v : ShelfView). v.files) same;
+  same = λ _ _. ap (λ (v : ShelfView). v.files) same;
 }

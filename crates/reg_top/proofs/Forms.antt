@@ -4,7 +4,7 @@ use Rattle.std.specs.Prelude.{All, slice_get, codes, cond}
 use Rattle.std.specs.Str.{bytes_eq}
 use Rattle.std.proofs.lemmas.Option.{same_Some, none-some}
 use Rattle.reg_top.specs.declared.words.SideWord.TheVariants as side
-use Rattle.reg_top.specs.Fetches.{RoundPlan, Command}
+use Rattle.reg_top.specs.Fetches.{Plan, Command}
 use Rattle.reg_top.specs.Words.{IsRunForm, HasOneValue, HasTexts, IsValue, IsForm, IsSideCommand}
 use Rattle.reg_top.specs.Fetches.Command.{Run, Explain, Compose, Instance, Check}
 use Rattle.reg_top.specs.Outcomes.{HasNoForm}
@@ -58,7 +58,7 @@ form_named words (Check name) other form = sym (ap named form.words_are)
 side_form : (words : List (List ℕ)) (a b : Command) → IsNoRun words → IsForm words a → IsForm words b → a ≡ b
 side_form words a b other h k = form_named words a other h ∙ sym (form_named words b other k)
 
-run_form : (words : List (List ℕ)) (plan : List RoundPlan) (b : Command) → IsRunForm words plan → IsForm words b → Run plan ≡ b
+run_form : (words : List (List ℕ)) (plan : Plan) (b : Command) → IsRunForm words plan → IsForm words b → Run plan ≡ b
 run_form words plan (Run other) h k = ap Run (one_plan words plan other h k)
 run_form words plan (Explain text) h k = absurd (other_first words (codes "explain") (first_word words (Explain text) k) (λ e. omega (arith, e)) (run_first words plan h))
 run_form words plan (Compose texts) h k = absurd (other_first words (codes "compose") (first_word words (Compose texts) k) (λ e. omega (arith, e)) (run_first words plan h))
@@ -74,7 +74,7 @@ one_form words (Check name) b h k = side_form words (Check name) b (other_first 
 
 -- ---- words of no form, by their first word
 
-pub no_run : (words : List (List ℕ)) → ((plan : List RoundPlan) → IsRunForm words plan → ⊥) → (IsSideCommand words → ⊥) → HasNoForm words
+pub no_run : (words : List (List ℕ)) → ((plan : Plan) → IsRunForm words plan → ⊥) → (IsSideCommand words → ⊥) → HasNoForm words
 no_run words none other (Run plan) form = none plan form
 no_run words none other (Explain text) form = other (side.Explain, first_word words (Explain text) form)
 no_run words none other (Compose texts) form = other (side.Compose, first_word words (Compose texts) form)

@@ -12,6 +12,8 @@ pub mod AccountTexts
 pub mod Forms
 pub mod BehindFirst
 pub mod RunFiles
+pub mod RunImages
+pub mod LiveRounds
 pub mod RoundRefusals
 pub mod Endings
 pub mod Compositions

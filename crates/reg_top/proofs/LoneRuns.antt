@@ -9,7 +9,7 @@ use Rattle.reg_model.specs.declared.reply.Row.{Row}
 use Rattle.reg_model.specs.Limits.{Limits}
 use Rattle.reg_model.specs.Opening.{Opening, IsOpening}
 use Rattle.reg_model.specs.Rows.{MayFollow, EachAfter, IsLawful, AsksLogFirst, session_rows}
-use Rattle.reg_model.specs.Runs.{RoundRows, nothing, next_opening, IsLawfulRound, IsLawfulRun}
+use Rattle.reg_model.specs.Runs.{RoundRows, next_opening, IsLawfulRound, IsLawfulRun}
 use Rattle.reg_model.proofs.LawfulRounds.{next_opens}
 use Rattle.reg_model.proofs.LoneRounds.{lone_round}
 use Rattle.reg_requests.specs.declared.items.Item.{Item}
@@ -18,14 +18,15 @@ use Rattle.reg_requests.proofs.FileItems.{one_list}
 use Rattle.reg_history.specs.History.{history_text}
 use Rattle.reg_session.specs.Files.{Files}
 use Rattle.reg_session.specs.Outside.{Outside, TakesWhole}
-use Rattle.reg_top.specs.Fetches.{RoundPlan, Fetch, fetches}
+use Rattle.reg_top.specs.Fetches.{RoundPlan, Plan, Fetch, fetches}
 use Rattle.reg_top.specs.Fetches.Command.{Run}
 use Rattle.reg_top.specs.Words.{IsForm}
 use Rattle.reg_top.specs.Outcomes.{GivenBy, Writes, TakesLoneOutput}
 use Rattle.reg_top.proofs.PlannedRuns.{may_be_run}
 use Rattle.reg_top.proofs.RunFiles.{some_fetched}
 use Rattle.reg_top.proofs.Forms.{one_form}
-use Rattle.reg_top.specs.commands.Run.{IsRunOutput, reply_texts, MakesCalls, IsFileOf, AskLogFirst}
+use Rattle.reg_top.proofs.RoundRefusals.{same_opening}
+use Rattle.reg_top.specs.commands.Run.{IsRunOutput, IsOutputFrom, reply_texts, MakesCalls, IsFileOf, AskLogFirst}
 use Rattle.reg_top.specs.Laws.{LoneWordsTellOutput}
 
 -- ---- lists side by side
@@ -147,7 +148,7 @@ rounds_same opening (l ∷ ls) (a ∷ xs) (b ∷ ys) one sizes lone made made' o
 -- ---- the output
 
 lone_plans : (opening : Opening) (plan : List RoundPlan) (files : Files) (served other : List RoundRows) (output more : List ℕ)
-    → All IsLone plan → IsRunOutput opening plan files served output → IsRunOutput opening plan files other more → (served ≡ other) × (output ≡ more)
+    → All IsLone plan → IsOutputFrom opening plan files served output → IsOutputFrom opening plan files other more → (served ≡ other) × (output ≡ more)
 lone_plans opening plan files served other output more lone a b =
     let x = a.made in
     let y = b.made in
@@ -159,13 +160,19 @@ lone_plans opening plan files served other output more lone a b =
     (subst (λ is. AllZip MakesCalls is other) (sym items) y.calls) a.lawful.opens a.lawful.lawful b.lawful.lawful x.alone y.alone in
     (rounds, a.text ∙ ap₂ (λ is rs. reply_texts 0 is rs ++ history_text opening rs) items rounds ∙ sym b.text)
 
-same_plan : (words : List (List ℕ)) (plan again : List RoundPlan) → IsForm words (Run plan) → IsForm words (Run again) → again ≡ plan
+same_plan : (words : List (List ℕ)) (plan again : Plan) → IsForm words (Run plan) → IsForm words (Run again) → again ≡ plan
 same_plan words plan again form other = let same : Run again ≡ Run plan = one_form words (Run again) (Run plan) other form in cc
 
+-- one plan, one opening, and so one list of rounds
+lone_outputs : (plan : Plan) (files : Files) (served other : List RoundRows) (output more : List ℕ)
+    → All IsLone plan.rounds → IsRunOutput plan files served output → IsRunOutput plan files other more → (served ≡ other) × (output ≡ more)
+lone_outputs plan files served other output more lone a b =
+    let same : b.opening ≡ a.opening = same_opening plan.load files b.opening a.opening b.opens a.opens in
+    lone_plans a.opening plan.rounds files served other output more lone a.is (subst (λ (o : Opening). IsOutputFrom o plan.rounds files other more) same b.is)
+
 pub lone_runs : LoneWordsTellOutput
-lone_runs words plan again files opening served other output more form repeated lone a b =
-    lone_plans opening plan files served other output more lone a
-    (subst (λ p. IsRunOutput opening p files other more) (same_plan words plan again form repeated) b)
+lone_runs words plan again files served other output more form repeated lone a b =
+    lone_outputs plan files served other output more lone a (subst (λ (p : Plan). IsRunOutput p files other more) (same_plan words plan again form repeated) b)
 
 -- ---- what the sink has taken
 
@@ -173,10 +180,10 @@ given_some : (list : List Fetch) (told : Option Files) (files : Files) (P : File
 given_some [] told files P some held given = absurd (omega (arith, some))
 given_some (f ∷ list) told files P some held given = subst (λ o. IfSome o P) held given
 
-pub lone_taken : (words : List (List ℕ)) (plan : List RoundPlan) (before after : Outside) (served : List RoundRows) → IsForm words (Run plan) → Writes (Run plan) before after served
+pub lone_taken : (words : List (List ℕ)) (plan : Plan) (before after : Outside) (served : List RoundRows) → IsForm words (Run plan) → Writes (Run plan) before after served
     → TakesLoneOutput plan before after
 lone_taken words plan before after served form writes files other output lone held is =
-    let wrote = given_some (fetches (Run plan)) before.shelf.files files (λ map. (text : List ℕ) × IsRunOutput nothing plan map served text × TakesWhole before.sink.taken after.sink.taken text)
+    let wrote = given_some (fetches (Run plan)) before.shelf.files files (λ map. (text : List ℕ) × IsRunOutput plan map served text × TakesWhole before.sink.taken after.sink.taken text)
     (some_fetched plan (may_be_run words plan form)) held writes in
-    let same = lone_runs words plan plan files nothing served other wrote.0 output form form lone wrote.1 is in
+    let same = lone_outputs plan files served other wrote.0 output lone wrote.1 is in
     subst (TakesWhole before.sink.taken after.sink.taken) same.1 wrote.2

@@ -3,7 +3,7 @@ use Rattle.std.proofs.Common.{◌≡◌, ◌⊎◌, inl, inr, ℕ, List, [], Som
 use Rattle.std.specs.Prelude.{IfSome}
 use Rattle.std.proofs.lemmas.Option.{none-some, same_Some}
 use Rattle.iscc_code.specs.Composites.{compose_fault}
-use Rattle.reg_model.specs.Runs.{RoundRows, nothing}
+use Rattle.reg_model.specs.Runs.{RoundRows}
 use Rattle.reg_model.proofs.RowSteps.{IfSome-weaker}
 use Rattle.reg_requests.specs.Lines.{line}
 use Rattle.reg_session.specs.Files.{Files}
@@ -21,7 +21,7 @@ use Rattle.reg_top.specs.declared.refusal.Refusal.TheVariants as refusals
 use Rattle.reg_top.specs.declared.ending.Declined.{Declined}
 use Rattle.reg_top.specs.declared.ending.Declined.TheVariants as declined
 use Rattle.reg_top.specs.SavedHistories.{IsSavedHistory, HasNoHistory, HasLawfulHistory, HasFaultyHistory}
-use Rattle.reg_top.specs.Fetches.{RoundPlan}
+use Rattle.reg_top.specs.Fetches.{Plan}
 use Rattle.reg_top.specs.Fetches.Command.{Run, Explain, Compose, Instance, Check}
 use Rattle.reg_top.specs.commands.Run.{IsRunOutput}
 use Rattle.reg_top.specs.commands.Explain.{IsExplanation}
@@ -30,7 +30,7 @@ use Rattle.reg_top.specs.commands.Check.{RefusesHistory, lawful_text}
 use Rattle.reg_top.specs.inner.Endings.{Makes, ExplainDeclines, ComposeDeclines, CheckDeclines, IsUnfaulty}
 use Rattle.reg_top.proofs.Compositions.{clash, read_or_refused, same_units}
 use Rattle.reg_top.proofs.SavedLines.{one_saved, saved_or_none}
-use Rattle.reg_top.proofs.RoundRefusals.{whole_unrefused}
+use Rattle.reg_top.proofs.RoundRefusals.{output_unrefused}
 use Rattle.reg_top.proofs.Parts.{Declines}
 
 -- ---- texts
@@ -59,10 +59,8 @@ compose_declines texts before declined.NoMemory is = tt
 
 -- ---- files
 
-pub run_makes : (plan : List RoundPlan) (files : Files) (served : List RoundRows) (output : List ℕ) → IsRunOutput nothing plan files served output → Makes (Run plan) files served output
-run_makes plan files served output is =
-    let made = is.made in
-    record { is = is; unrefused = λ refusal refuses. whole_unrefused nothing plan served made.sizes refusal refuses.after }
+pub run_makes : (plan : Plan) (files : Files) (served : List RoundRows) (output : List ℕ) → IsRunOutput plan files served output → Makes (Run plan) files served output
+run_makes plan files served output is = record { is = is; unrefused = output_unrefused plan files served output is }
 
 pub instance_makes : (name bytes : List ℕ) (files : Files) → files name ≡ Some bytes → Makes (Instance name) files [] (line (unit_text (instance_of bytes)))
 instance_makes name bytes files held = record { is = record { bytes = bytes; held = held; printed = refl }; unrefused = λ refusal refuses. refuses }

@@ -3,7 +3,7 @@ use Rattle.std.proofs.Common.{◌≡◌, ℕ, List, [], ◌∷◌, length, None,
 use Rattle.std.specs.Prelude.{All}
 use Rattle.std.proofs.lemmas.List.Elements.{All-nil, All-cons}
 use Rattle.reg_model.specs.declared.sizes.TheConstants.{BITS_USUAL}
-use Rattle.reg_top.specs.Fetches.{RoundPlan}
+use Rattle.reg_top.specs.Fetches.{RoundPlan, Plan}
 use Rattle.reg_top.specs.Words.{MarkedRound, IsRunForm, planned, round_plan, sizes_from, first_or, first_sizes, set_numbers}
 use Rattle.reg_top.specs.declared.run_words.RunOption.TheVariants.{Bits}
 use Rattle.reg_top.specs.declared.run_words.MarkSizes.{MarkSizes}
@@ -21,7 +21,7 @@ callers_planned before bits (round ∷ rounds) =
     let sizes = sizes_from before round.sizes in
     All-cons has_callers (round_plan sizes bits round.names) (planned sizes bits rounds) refl (callers_planned sizes bits rounds)
 
-pub may_be_run : (words : List (List ℕ)) (plan : List RoundPlan) → IsRunForm words plan → MayBeRun plan
+pub may_be_run : (words : List (List ℕ)) (plan : Plan) → IsRunForm words plan → MayBeRun plan.rounds
 may_be_run words plan form =
     let is = behind_run words plan form in
     let sizes : MarkSizes = first_sizes is.arguments in

@@ -1,30 +1,34 @@
 -- The files of a run: all of them are read, or the first that gave nothing is told.
-use Rattle.std.proofs.Common.{◌≡◌, ℕ, suc, ◌+◌, ◌^◌, ◌≤◌, List, [], ◌∷◌, ◌++◌, map, length, take, drop, Option, Some, None, refl, sym, ◌∙◌, ap, subst, append_assoc, arith}
+use Rattle.std.proofs.Common.{◌≡◌, ℕ, suc, ◌+◌, ◌^◌, ◌≤◌, List, [], ◌∷◌, ◌++◌, map, length, take, drop, Option, Some, None, Err, refl, sym, ◌∙◌, ap, subst, append_assoc, arith}
 use Rattle.std.specs.Prelude.{All, IfSome, IsSomeAnd, Contains, slice_get}
 use Rattle.std.specs.List.{AllZip, flat_map}
+use Rattle.std.specs.Option.{option_to_list}
 use Rattle.std.proofs.lemmas.List.{map-append, length-map, length-append}
 use Rattle.std.proofs.lemmas.List.Elements.{All-nil, All-cons, All-append, All-from_recursion, recursion_from_All, All-map, All-weaker}
 use Rattle.std.proofs.lemmas.Grind.{flat_map-append}
 use Rattle.std.specs.List.{AllByRecursion}
 use Rattle.reg_model.specs.Limits.{IsInRange}
 use Rattle.reg_model.specs.Runs.{RoundRows}
+use Rattle.reg_model.proofs.RowSteps.{IfSome-weaker}
 use Rattle.reg_requests.specs.declared.items.Item.{Item}
 use Rattle.reg_requests.specs.Requests.{calls_of}
 use Rattle.reg_session.specs.declared.shelf.FetchFault.{FetchFault}
+use Rattle.reg_session.specs.declared.shelf.FetchFault.TheVariants as faults
 use Rattle.reg_session.specs.declared.shelf.FetchFault.TheVariants.{Failed}
 use Rattle.reg_session.specs.Faults.{HasCause}
-use Rattle.reg_session.specs.Files.{Files}
+use Rattle.reg_session.specs.Files.{Files, FetchTells}
 use Rattle.reg_session.specs.Outside.{Outside, Tells}
 use Rattle.reg_session.specs.Sessions.{MayBeMade}
-use Rattle.reg_top.specs.declared.commands.run.Unread.{Unread}
-use Rattle.reg_top.specs.declared.commands.run.Unread.TheVariants as unreads
+use Rattle.reg_top.specs.declared.run_files.Unread.{Unread}
+use Rattle.reg_top.specs.declared.run_files.Unread.TheVariants as unreads
 use Rattle.reg_top.specs.declared.ending.Ending.TheVariants as endings
-use Rattle.reg_top.specs.Fetches.{RoundPlan, Fetch, fetch_of, fetches}
+use Rattle.reg_top.specs.Fetches.{RoundPlan, Plan, Fetch, fetch_of, image_fetches, request_fetches, fetches}
 use Rattle.reg_top.specs.Fetches.Command.{Run}
 use Rattle.reg_top.specs.Outcomes.{GivenBy, IsHeld, IsReached}
-use Rattle.reg_top.specs.inner.Endings.{UnreadWhy, unread_line, Fetched, Ends}
+use Rattle.reg_top.specs.inner.Endings.{UnreadWhy, unread_line, Fetched, Untouched, Ends}
 use Rattle.reg_top.specs.inner.RunPlans.{MayBeRun}
-use Rattle.reg_top.specs.inner.RunRounds.{MayBeServed, IsRead, ReadsRound, FitsRound, IsFirstUnread, AreUnread}
+use Rattle.reg_top.specs.inner.RunFiles.{MayBeServed, IsRead, ReadsRound, LoadsImage, IsFirstUnread, AreUnread}
+use Rattle.reg_top.specs.inner.RunRounds.{FitsRound}
 use Rattle.reg_top.proofs.BehindFirst.{cut_at}
 
 -- the files of a round
@@ -33,6 +37,11 @@ names_of p = p.names
 
 abbrev request : List ℕ → Fetch
 request name = fetch_of (2 ^ 24) name
+
+-- what follows of two facts of the files that are told
+both : (files : Option Files) (P Q R : Files → Type 0) → ((told : Files) → P told → Q told → R told) → IfSome files P → IfSome files Q → IfSome files R
+both None P Q R f p q = tt
+both (Some told) P Q R f p q = f told p q
 
 -- ---- files that were read
 
@@ -61,9 +70,24 @@ pub rounds_held : (files : Option Files) (plan : List RoundPlan) (lists : List (
 rounds_held None plan lists read = tt
 rounds_held (Some told) plan lists read = all_held told plan lists read
 
-pub all_fetched : (plan : List RoundPlan) (lists : List (List (List Item))) (before after : Outside) → AllZip (ReadsRound before.shelf.files) plan lists → after.shelf.faults ≡ before.shelf.faults
-    → Fetched (Run plan) before after
-all_fetched plan lists before after read quiet = record { held = rounds_held before.shelf.files plan lists read; quiet = quiet }
+pub image_held : (files : Option Files) (plan : Plan) (image : Option (List ℕ)) → LoadsImage files plan.load image → IfSome files (λ told. All (IsHeld told) (image_fetches plan))
+image_held None plan image loads = tt
+image_held (Some told) plan image loads = held_so plan.load image loads
+  where
+    held_so : (load given : Option (List ℕ)) → LoadsImage (Some told) load given → All (IsHeld told) (map (fetch_of (2 ^ 25)) (option_to_list load))
+    held_so None given loads = All-nil (IsHeld told)
+    held_so (Some name) None loads = absurd loads
+    held_so (Some name) (Some bytes) loads =
+        All-cons (IsHeld told) (fetch_of (2 ^ 25) name) [] (subst (λ h. IsSomeAnd h (λ b. length b ≤ 2 ^ 25)) (sym loads.held) loads.within) (All-nil (IsHeld told))
+
+pub all_fetched : (plan : Plan) (image : Option (List ℕ)) (lists : List (List (List Item))) (before after : Outside) → LoadsImage before.shelf.files plan.load image
+    → AllZip (ReadsRound before.shelf.files) plan.rounds lists → after.shelf.fetch_faults ≡ before.shelf.fetch_faults → Fetched (Run plan) before after
+all_fetched plan image lists before after loads read quiet = record {
+  held = both before.shelf.files _ _ (λ told. All (IsHeld told) (image_fetches plan ++ request_fetches plan))
+      (λ told first rest. All-append (IsHeld told) (image_fetches plan) (request_fetches plan) first rest)
+      (image_held before.shelf.files plan image loads) (rounds_held before.shelf.files plan.rounds lists read);
+  quiet = quiet;
+}
 
 -- ---- the sessions
 
@@ -106,73 +130,100 @@ some_names [] some sized callers = absurd (omega (arith, some))
 some_names (p ∷ plan) some sized callers = omega (arith, length-append p.names (flat_map names_of plan), sized.0.callers, callers.0)
 
 -- a run fetches a file
-pub some_fetched : (plan : List RoundPlan) → MayBeRun plan → 1 ≤ length (fetches (Run plan))
+pub some_fetched : (plan : Plan) → MayBeRun plan.rounds → 1 ≤ length (fetches (Run plan))
 some_fetched plan may =
     omega (
       arith,
-      length-map (flat_map names_of plan) request,
-      some_names plan may.some (recursion_from_All (λ (p : RoundPlan). IsInRange p.limits) plan may.in_range) (recursion_from_All HasCallers plan may.callers),
+      length-append (image_fetches plan) (request_fetches plan),
+      length-map (flat_map names_of plan.rounds) request,
+      some_names plan.rounds may.some (recursion_from_All (λ (p : RoundPlan). IsInRange p.limits) plan.rounds may.in_range) (recursion_from_All HasCallers plan.rounds may.callers),
     )
 
-given_of : (list : List Fetch) (files : Option Files) (plan : List RoundPlan) (lists : List (List (List Item))) (P : Files → Type 0) → 1 ≤ length list → AllZip (ReadsRound files) plan lists
-    → ((told : Files) → AllZip (ReadsRound (Some told)) plan lists → P told) → GivenBy list files P
-given_of [] files plan lists P some read holds = absurd (omega (arith, some))
-given_of (f ∷ list) None plan lists P some read holds = tt
-given_of (f ∷ list) (Some told) plan lists P some read holds = holds told read
+-- what was read, where the shelf tells its files
+pub record WasGiven (plan : Plan) (image : Option (List ℕ)) (lists : List (List (List Item))) (told : Files) : Type 0 where
+  pub loads : LoadsImage (Some told) plan.load image
+  pub read : AllZip (ReadsRound (Some told)) plan.rounds lists
+
+given_of : (list : List Fetch) (files : Option Files) (plan : Plan) (image : Option (List ℕ)) (lists : List (List (List Item))) (P : Files → Type 0) → 1 ≤ length list
+    → LoadsImage files plan.load image → AllZip (ReadsRound files) plan.rounds lists → ((told : Files) → WasGiven plan image lists told → P told) → GivenBy list files P
+given_of [] files plan image lists P some loads read holds = absurd (omega (arith, some))
+given_of (f ∷ list) None plan image lists P some loads read holds = tt
+given_of (f ∷ list) (Some told) plan image lists P some loads read holds = holds told (record { loads = loads; read = read })
 
 -- what holds of the files that were read, where the shelf tells them
-pub given_read : (plan : List RoundPlan) (lists : List (List (List Item))) (before : Outside) (P : Files → Type 0) → MayBeRun plan → AllZip (ReadsRound before.shelf.files) plan lists
-    → ((told : Files) → AllZip (ReadsRound (Some told)) plan lists → P told) → GivenBy (fetches (Run plan)) before.shelf.files P
-given_read plan lists before P may read holds = given_of (fetches (Run plan)) before.shelf.files plan lists P (some_fetched plan may) read holds
+pub given_read : (plan : Plan) (image : Option (List ℕ)) (lists : List (List (List Item))) (before : Outside) (P : Files → Type 0) → MayBeRun plan.rounds
+    → LoadsImage before.shelf.files plan.load image → AllZip (ReadsRound before.shelf.files) plan.rounds lists
+    → ((told : Files) → WasGiven plan image lists told → P told) → GivenBy (fetches (Run plan)) before.shelf.files P
+given_read plan image lists before P may loads read holds = given_of (fetches (Run plan)) before.shelf.files plan image lists P (some_fetched plan may) loads read holds
 
 -- ---- the first file that gave nothing
-
-both : (files : Option Files) (P Q R : Files → Type 0) → ((told : Files) → P told → Q told → R told) → IfSome files P → IfSome files Q → IfSome files R
-both None P Q R f p q = tt
-both (Some told) P Q R f p q = f told p q
 
 contains_behind : {X : Type 0} (front : List X) (x : X) (rest : List X) → Contains (front ++ x ∷ rest) x
 contains_behind [] x rest = (0, omega arith, refl)
 contains_behind (y ∷ front) x rest = let there = contains_behind front x rest in (suc there.0, omega (arith, there.1), there.2)
 
-pub first_unread : (plan : List RoundPlan) (before after : Outside) (served : List RoundRows) (name : List ℕ) (fault : FetchFault)
-    → IsFirstUnread before.shelf.files before.shelf.faults after.shelf.faults (flat_map names_of plan) name fault
+pub first_unread : (plan : Plan) (before after : Outside) (served : List RoundRows) (name : List ℕ) (fault : FetchFault)
+    → IsFirstUnread before.shelf.files before.shelf.fetch_faults after.shelf.fetch_faults (fetches (Run plan)) name fault → Untouched before after
     → Tells before.sink after.sink (unread_line fault name) → Ends (Run plan) before after served (endings.Unread fault)
-first_unread plan before after served name fault first told =
-    let fetch = request name in
-    let front = map request first.front in
-    let rest = map request first.rest in
-    let all : fetches (Run plan) ≡ front ++ fetch ∷ rest = ap (map request) first.split ∙ map-append request first.front (name ∷ first.rest) in
-    record {
-      fetch = fetch;
-      one = subst (λ (list : List Fetch). Contains list fetch) (sym all) (contains_behind front fetch rest);
-      why = both before.shelf.files _ _ (λ files. IsReached (Run plan) files fetch × UnreadWhy fault files fetch)
-          (λ files held why. (record { before = front; rest = rest; all = all; held = held }, why)) first.held first.why;
-      cause = first.cause;
-      told = told;
-    }
+first_unread plan before after served name fault first untouched told = record {
+  fetch = first.first;
+  one = subst (λ (list : List Fetch). Contains list first.first) (sym first.split) (contains_behind first.front first.first first.rest);
+  why = both before.shelf.files _ _ (λ files. IsReached (Run plan) files first.first × UnreadWhy fault files first.first)
+      (λ files held why. (record { before = first.front; rest = first.rest; all = first.split; held = held }, why)) first.held first.why;
+  cause = first.cause;
+  untouched = untouched;
+  told = subst (λ n. Tells before.sink after.sink (unread_line fault n)) (sym first.named) told;
+}
 
--- the first of the files of a round, behind those of the rounds before it
-pub first_behind : (files : Option Files) (was now after : ℕ) (plan : List RoundPlan) (lists : List (List (List Item))) (names more : List (List ℕ)) (all : List (List ℕ)) (name : List ℕ) (fault : FetchFault)
-    → all ≡ flat_map names_of plan ++ (names ++ more) → AllZip (ReadsRound files) plan lists → now ≡ was → IsFirstUnread files now after names name fault → IsFirstUnread files was after all name fault
-first_behind files was now after plan lists names more all name fault split read quiet first = record {
-  front = flat_map names_of plan ++ first.front;
+why_told : (fault : FetchFault) (told : Files) (limit : ℕ) (name : List ℕ) → FetchTells (told name) limit (Err fault) [] → UnreadWhy fault told (fetch_of limit name)
+why_told faults.Missing told limit name tells = tells
+why_told faults.TooLong told limit name tells = tells
+why_told faults.Failed told limit name tells = tt
+why_told faults.NoMemory told limit name tells = tt
+
+-- one file, which gave nothing
+pub one_unread : (files : Option Files) (was after limit : ℕ) (name : List ℕ) (fault : FetchFault) → IfSome files (λ told. FetchTells (told name) limit (Err fault) [])
+    → HasCause was after (fault ≡ Failed) → IsFirstUnread files was after (fetch_of limit name ∷ []) name fault
+one_unread files was after limit name fault tells cause = record {
+  front = [];
+  first = fetch_of limit name;
+  rest = [];
+  split = refl;
+  named = refl;
+  held = IfSome-weaker _ _ (λ told _. All-nil (IsHeld told)) files tells;
+  why = IfSome-weaker _ _ (λ told is. why_told fault told limit name is) files tells;
+  cause = cause;
+}
+
+-- the first of these files, behind those that were passed
+first_behind : (files : Option Files) (was now after : ℕ) (passed list more all : List Fetch) (name : List ℕ) (fault : FetchFault) → all ≡ passed ++ (list ++ more)
+    → IfSome files (λ told. All (IsHeld told) passed) → now ≡ was → IsFirstUnread files now after list name fault → IsFirstUnread files was after all name fault
+first_behind files was now after passed list more all name fault split held quiet first = record {
+  front = passed ++ first.front;
+  first = first.first;
   rest = first.rest ++ more;
-  split = split ∙ ap (λ ns. flat_map names_of plan ++ (ns ++ more)) first.split ∙ ap (λ ns. flat_map names_of plan ++ ns) (append_assoc first.front (name ∷ first.rest) more)
-      ∙ sym (append_assoc (flat_map names_of plan) first.front (name ∷ (first.rest ++ more)));
-  held = both files _ _ (λ told. All (IsHeld told) (map request (flat_map names_of plan ++ first.front)))
-      (λ told before front.
-      subst (All (IsHeld told)) (sym (map-append request (flat_map names_of plan) first.front))
-      (All-append (IsHeld told) (map request (flat_map names_of plan)) (map request first.front) before front))
-      (rounds_held files plan lists read) first.held;
+  split = split ∙ ap (λ fs. passed ++ (fs ++ more)) first.split ∙ ap (λ fs. passed ++ fs) (append_assoc first.front (first.first ∷ first.rest) more)
+      ∙ sym (append_assoc passed first.front (first.first ∷ (first.rest ++ more)));
+  named = first.named;
+  held = both files _ _ (λ told. All (IsHeld told) (passed ++ first.front)) (λ told before front. All-append (IsHeld told) passed first.front before front) held first.held;
   why = first.why;
   cause = subst (λ n. HasCause n after (fault ≡ Failed)) quiet first.cause;
 }
 
--- the files of a round that weren't read, behind the rounds that were
-pub unread_behind : (files : Option Files) (was now after : ℕ) (plan : List RoundPlan) (at : ℕ) (p : RoundPlan) (lists : List (List (List Item))) (unread : Unread)
-    → slice_get plan at ≡ Some p → AllZip (ReadsRound files) (take at plan) lists → now ≡ was → AreUnread files now after p.names unread → AreUnread files was after (flat_map names_of plan) unread
-unread_behind files was now after plan at p lists (unreads.File name fault) there read quiet first =
-    first_behind files was now after (take at plan) lists p.names (flat_map names_of (drop (at + 1) plan)) (flat_map names_of plan) name.now fault
-    (ap (flat_map names_of) (cut_at plan at p there) ∙ flat_map-append names_of (take at plan) (p ∷ drop (at + 1) plan)) read quiet first
-unread_behind files was now after plan at p lists unreads.NoMemory there read quiet same = same ∙ quiet
+-- the files that weren't read, behind those that were
+pub unread_behind : (files : Option Files) (was now after : ℕ) (passed list more all : List Fetch) (unread : Unread) → all ≡ passed ++ (list ++ more)
+    → IfSome files (λ told. All (IsHeld told) passed) → now ≡ was → AreUnread files now after list unread → AreUnread files was after all unread
+unread_behind files was now after passed list more all (unreads.File name fault) split held quiet first = first_behind files was now after passed list more all name.now fault split held quiet first
+unread_behind files was now after passed list more all unreads.NoMemory split held quiet same = same ∙ quiet
+
+-- those of a round, behind the rounds that were
+pub round_unread : (files : Option Files) (was now after : ℕ) (plan : List RoundPlan) (at : ℕ) (p : RoundPlan) (lists : List (List (List Item))) (unread : Unread) → slice_get plan at ≡ Some p
+    → AllZip (ReadsRound files) (take at plan) lists → now ≡ was → AreUnread files now after (map request p.names) unread → AreUnread files was after (map request (flat_map names_of plan)) unread
+round_unread files was now after plan at p lists unread there read quiet why =
+    let before = flat_map names_of (take at plan) in
+    let more = flat_map names_of (drop (at + 1) plan) in
+    let names : flat_map names_of plan ≡ before ++ (p.names ++ more) = ap (flat_map names_of) (cut_at plan at p there) ∙ flat_map-append names_of (take at plan) (p ∷ drop (at + 1) plan) in
+    let all : map request (flat_map names_of plan) ≡ map request before ++ (map request p.names ++ map request more) =
+    ap (map request) names ∙ map-append request before (p.names ++ more) ∙ ap (λ fs. map request before ++ fs) (map-append request p.names more) in
+    unread_behind files was now after (map request before) (map request p.names) (map request more) (map request (flat_map names_of plan)) unread all
+    (rounds_held files (take at plan) lists read) quiet why

@@ -6,21 +6,23 @@ use Rattle.std.proofs.lemmas.List.{append_assoc, append-nil, length-drop, length
 use Rattle.std.proofs.lemmas.List.Elements.{All-nil, All-cons, All-head, All-tail}
 use Rattle.reg_model.specs.declared.sizes.TheConstants.{ENTRIES_USUAL, LOG_USUAL, BITS_USUAL}
 use Rattle.reg_model.specs.Limits.{IsInRange}
-use Rattle.reg_top.specs.Fetches.{RoundPlan}
-use Rattle.reg_top.specs.Words.{Argument, AreSaid, MarkedRound, IsPlanOf, IsRunForm, planned, round_plan, sizes_from, first_or, set_numbers, is_placed}
+use Rattle.reg_top.specs.Fetches.{RoundPlan, Plan}
+use Rattle.reg_top.specs.Words.{Argument, AreSaid, MarkedRound, IsPlanOf, IsRunForm, planned, round_plan, sizes_from, first_or, set_numbers, set_files, is_placed}
 use Rattle.reg_top.specs.Words.Argument.{Mark, Name}
 use Rattle.reg_top.specs.declared.run_words.RunOption.{RunOption}
 use Rattle.reg_top.specs.declared.run_words.RunOption.TheVariants.{Entries, Log, Bits}
+use Rattle.reg_top.specs.declared.run_words.FileOption.{FileOption}
+use Rattle.reg_top.specs.declared.run_words.FileOption.TheVariants.{Load, Save}
 use Rattle.reg_top.specs.declared.run_words.MarkSizes.{MarkSizes}
 use Rattle.reg_top.specs.inner.RunWords.{StandsAt, NoneStandsAt, ReadSoFar, HasRead, read_more, read_all, rounds_of, nothing_read, HasPlaces, HasFewNames, plan_of, read_of, round_of}
 use Rattle.reg_top.specs.declared.run_words.Reading.{Reading}
 use Rattle.reg_top.specs.declared.run_words.RoundWords.{RoundWords}
 use Rattle.reg_top.proofs.RunWords.{said_front, said_more, same_arguments}
-use Rattle.reg_top.proofs.RunWordsReading.{placed_of, placed_read, one_division, marked, first_of, sizes_in, entries_read, log_read, bits_read, fitted_before, read_all-append, all_front, all_last}
+use Rattle.reg_top.proofs.RunWordsReading.{placed_of, placed_read, one_division, marked, first_of, sizes_in, entries_read, log_read, bits_read, load_read, save_read, fitted_before, read_all-append, all_front, all_last}
 
 -- all sizes are in range
 abbrev pub AreInRange : List RoundPlan → Type 0
-AreInRange plan = All (λ (p : RoundPlan). IsInRange p.limits) plan
+AreInRange rounds = All (λ (p : RoundPlan). IsInRange p.limits) rounds
 
 -- ---- the rounds
 
@@ -59,37 +61,50 @@ few_names before bits (round ∷ rounds) are =
 
 -- ---- from arguments to the plan, and back
 
-abbrev plan_from : List ℕ → List ℕ → List ℕ → List MarkedRound → List RoundPlan
-plan_from entries log bits rounds = planned (record { entries = first_or ENTRIES_USUAL entries; log = first_or LOG_USUAL log }) (first_or BITS_USUAL bits) rounds
+abbrev rounds_from : List ℕ → List ℕ → List ℕ → List MarkedRound → List RoundPlan
+rounds_from entries log bits rounds = planned (record { entries = first_or ENTRIES_USUAL entries; log = first_or LOG_USUAL log }) (first_or BITS_USUAL bits) rounds
 
--- a plan from what is read, and from what its arguments set
-plans_agree : (arguments : List Argument) (rounds : List MarkedRound) → rounds_of (read_all nothing_read arguments) ≡ rounds
-    → plan_from (set_numbers Entries arguments) (set_numbers Log arguments) (set_numbers Bits arguments) rounds ≡ plan_of (read_all nothing_read arguments)
-plans_agree arguments rounds are =
+-- the rounds from what is read, and from what its arguments set
+rounds_agree : (arguments : List Argument) (rounds : List MarkedRound) → rounds_of (read_all nothing_read arguments) ≡ rounds
+    → rounds_from (set_numbers Entries arguments) (set_numbers Log arguments) (set_numbers Bits arguments) rounds ≡ (plan_of (read_all nothing_read arguments)).rounds
+rounds_agree arguments rounds are =
     let read = read_all nothing_read arguments in
-    ap (λ es. plan_from es (set_numbers Log arguments) (set_numbers Bits arguments) rounds) (sym (entries_read arguments))
-    ∙ ap (λ ls. plan_from read.entries ls (set_numbers Bits arguments) rounds) (sym (log_read arguments))
-    ∙ ap (λ bs. plan_from read.entries read.log bs rounds) (sym (bits_read arguments))
-    ∙ ap (λ rs. plan_from read.entries read.log read.bits rs) (sym are)
+    ap (λ es. rounds_from es (set_numbers Log arguments) (set_numbers Bits arguments) rounds) (sym (entries_read arguments))
+    ∙ ap (λ ls. rounds_from read.entries ls (set_numbers Bits arguments) rounds) (sym (log_read arguments))
+    ∙ ap (λ bs. rounds_from read.entries read.log bs rounds) (sym (bits_read arguments))
+    ∙ ap (λ rs. rounds_from read.entries read.log read.bits rs) (sym are)
 
-pub plan_is : (words : List (List ℕ)) (plan : List RoundPlan) (is : IsPlanOf words plan) → plan ≡ plan_of (read_all nothing_read is.arguments)
-plan_is words plan is = is.are ∙ plans_agree is.arguments (marked None is.first ∷ is.next) (rounds_are is.arguments is.first is.next is.placed)
+same_plan : (plan : Plan) (load save : Option (List ℕ)) (rounds : List RoundPlan) → plan.load ≡ load → plan.save ≡ save → plan.rounds ≡ rounds → plan ≡ record { load = load; save = save; rounds = rounds }
+same_plan plan load save rounds loads saves are =
+    ap (λ l. plan_with l plan.save plan.rounds) loads ∙ ap (λ s. plan_with load s plan.rounds) saves ∙ ap (λ rs. plan_with load save rs) are
+  where
+    plan_with : Option (List ℕ) → Option (List ℕ) → List RoundPlan → Plan
+    plan_with load save rounds = record { load = load; save = save; rounds = rounds }
 
-pub plan_fits : (words : List (List ℕ)) (plan : List RoundPlan) (is : IsPlanOf words plan) → HasPlaces (read_all nothing_read is.arguments)
+pub plan_is : (words : List (List ℕ)) (plan : Plan) (is : IsPlanOf words plan) → plan ≡ plan_of (read_all nothing_read is.arguments)
+plan_is words plan is =
+    let asked = plan_of (read_all nothing_read is.arguments) in
+    same_plan plan asked.load asked.save asked.rounds (is.load ∙ ap (λ names. slice_get names 0) (sym (load_read is.arguments))) (is.save ∙ ap (λ names. slice_get names 0) (sym (save_read is.arguments)))
+    (is.are ∙ rounds_agree is.arguments (marked None is.first ∷ is.next) (rounds_are is.arguments is.first is.next is.placed))
+
+pub plan_fits : (words : List (List ℕ)) (plan : Plan) (is : IsPlanOf words plan) → HasPlaces (read_all nothing_read is.arguments)
 plan_fits words plan is =
     let read = read_all nothing_read is.arguments in
     let sizes : MarkSizes = record { entries = first_or ENTRIES_USUAL read.entries; log = first_or LOG_USUAL read.log } in
-    let few = few_names sizes (first_or BITS_USUAL read.bits) (rounds_of read) (subst AreInRange (plan_is words plan is) is.in_range) in
+    let asked : plan.rounds ≡ (plan_of read).rounds = ap (λ (p : Plan). p.rounds) (plan_is words plan is) in
+    let few = few_names sizes (first_or BITS_USUAL read.bits) (rounds_of read) (subst AreInRange asked is.in_range) in
     record {
       entries = omega (arith, ap length (entries_read is.arguments), is.once Entries);
       log = omega (arith, ap length (log_read is.arguments), is.once Log);
       bits = omega (arith, ap length (bits_read is.arguments), is.once Bits);
-      rounds = omega (arith, length_push read.closed read.last, length_planned sizes (first_or BITS_USUAL read.bits) (rounds_of read), ap length (plan_is words plan is), is.few);
+      load = omega (arith, ap length (load_read is.arguments), is.file_once Load);
+      save = omega (arith, ap length (save_read is.arguments), is.file_once Save);
+      rounds = omega (arith, length_push read.closed read.last, length_planned sizes (first_or BITS_USUAL read.bits) (rounds_of read), ap length asked, is.few);
       names = all_front HasFewNames read.closed read.last few;
       last = all_last HasFewNames read.closed read.last few;
     }
 
-pub is_asked : (arguments : List Argument) (words : List (List ℕ)) → AreSaid arguments words → HasPlaces (read_all nothing_read arguments) → AreInRange (plan_of (read_all nothing_read arguments))
+pub is_asked : (arguments : List Argument) (words : List (List ℕ)) → AreSaid arguments words → HasPlaces (read_all nothing_read arguments) → AreInRange (plan_of (read_all nothing_read arguments)).rounds
     → IsPlanOf words (plan_of (read_all nothing_read arguments))
 is_asked arguments words said fits in_range =
     let read = read_all nothing_read arguments in
@@ -99,10 +114,13 @@ is_asked arguments words said fits in_range =
       arguments = arguments;
       said = said;
       once = once_set arguments fits;
+      file_once = file_once_set arguments fits;
+      load = ap (λ names. slice_get names 0) (load_read arguments);
+      save = ap (λ names. slice_get names 0) (save_read arguments);
       first = parts.first;
       next = parts.next;
       placed = parts.placed_are;
-      are = sym (plans_agree arguments (marked None parts.first ∷ parts.next) parts.rounds_are);
+      are = sym (rounds_agree arguments (marked None parts.first ∷ parts.next) parts.rounds_are);
       few = omega (arith, length_push read.closed read.last, length_planned sizes (first_or BITS_USUAL read.bits) (rounds_of read), fits.rounds);
       in_range = in_range;
     }
@@ -111,6 +129,10 @@ is_asked arguments words said fits in_range =
     once_set arguments fits Entries = omega (arith, ap length (entries_read arguments), fits.entries)
     once_set arguments fits Log = omega (arith, ap length (log_read arguments), fits.log)
     once_set arguments fits Bits = omega (arith, ap length (bits_read arguments), fits.bits)
+
+    file_once_set : (arguments : List Argument) → HasPlaces (read_all nothing_read arguments) → (option : FileOption) → length (set_files option arguments) ≤ 1
+    file_once_set arguments fits Load = omega (arith, ap length (load_read arguments), fits.load)
+    file_once_set arguments fits Save = omega (arith, ap length (save_read arguments), fits.save)
 
 -- ---- the words read one argument after the other
 
@@ -133,7 +155,7 @@ argument_read words at read new a count has stands is fits = record {
 -- ---- where no plan is asked for
 
 -- no argument stands where one should
-pub none_stands : (words : List (List ℕ)) (at : ℕ) (read : ReadSoFar) → HasRead words at read → at < length words → NoneStandsAt words at → (plan : List RoundPlan) → IsPlanOf (drop 1 words) plan → ⊥
+pub none_stands : (words : List (List ℕ)) (at : ℕ) (read : ReadSoFar) → HasRead words at read → at < length words → NoneStandsAt words at → (plan : Plan) → IsPlanOf (drop 1 words) plan → ⊥
 none_stands words at read has low none plan is =
     let left = said_front has.arguments is.arguments has.front (drop at words) (drop 1 words) has.said has.whole is.said in
     none_said left.0 left.2 (omega (arith, length-drop at words))
@@ -144,7 +166,7 @@ none_stands words at read has low none plan is =
 
 -- an argument doesn't fit
 pub argument_refused : (words : List (List ℕ)) (at : ℕ) (read : ReadSoFar) (a : Argument) (count : ℕ) → HasRead words at read → StandsAt words at a count → (HasPlaces (read_more read a) → ⊥)
-    → (plan : List RoundPlan) → IsPlanOf (drop 1 words) plan → ⊥
+    → (plan : Plan) → IsPlanOf (drop 1 words) plan → ⊥
 argument_refused words at read a count has stands refused plan is =
     let arguments = has.arguments ++ a ∷ [] in
     let said = said_more has.arguments a has.front stands.first has.said stands.says in
@@ -159,28 +181,28 @@ said_whole words read has =
     subst (AreSaid has.arguments) (sym (has.whole ∙ ap (λ ws. has.front ++ ws) (drop_all (length words) words (omega arith)) ∙ append-nil has.front)) has.said
 
 -- the sizes are out of range
-pub out_of_range : (words : List (List ℕ)) (read : ReadSoFar) → HasRead words (length words) read → (AreInRange (plan_of read) → ⊥) → (plan : List RoundPlan) → IsPlanOf (drop 1 words) plan → ⊥
+pub out_of_range : (words : List (List ℕ)) (read : ReadSoFar) → HasRead words (length words) read → (AreInRange (plan_of read).rounds → ⊥) → (plan : Plan) → IsPlanOf (drop 1 words) plan → ⊥
 out_of_range words read has out plan is =
     let same = same_arguments has.arguments is.arguments (drop 1 words) (said_whole words read has) is.said in
-    out (subst AreInRange (plan_is (drop 1 words) plan is ∙ ap (λ arguments. plan_of (read_all nothing_read arguments)) same ∙ ap plan_of (sym has.is)) is.in_range)
+    out (subst (λ (p : Plan). AreInRange p.rounds) (plan_is (drop 1 words) plan is ∙ ap (λ arguments. plan_of (read_all nothing_read arguments)) same ∙ ap plan_of (sym has.is)) is.in_range)
 
 -- ---- the form of a run
 
-pub behind_run : (words : List (List ℕ)) (plan : List RoundPlan) → IsRunForm words plan → IsPlanOf (drop 1 words) plan
+pub behind_run : (words : List (List ℕ)) (plan : Plan) → IsRunForm words plan → IsPlanOf (drop 1 words) plan
 behind_run words plan form = subst (λ ws. IsPlanOf ws plan) (sym (ap (drop 1) form.1)) form.2
 
-pub run_first : (words : List (List ℕ)) (plan : List RoundPlan) → IsRunForm words plan → slice_get words 0 ≡ Some (codes "run")
+pub run_first : (words : List (List ℕ)) (plan : Plan) → IsRunForm words plan → slice_get words 0 ≡ Some (codes "run")
 run_first words plan form = ap (λ ws. slice_get ws 0) form.1
 
 -- the words ask for the plan that was read
-pub is_run : (words : List (List ℕ)) (read : ReadSoFar) → words ≡ codes "run" ∷ drop 1 words → HasRead words (length words) read → AreInRange (plan_of read) → IsRunForm words (plan_of read)
+pub is_run : (words : List (List ℕ)) (read : ReadSoFar) → words ≡ codes "run" ∷ drop 1 words → HasRead words (length words) read → AreInRange (plan_of read).rounds → IsRunForm words (plan_of read)
 is_run words read begins has in_range =
     let arguments = has.arguments in
-    let asked = is_asked arguments (drop 1 words) (said_whole words read has) (subst HasPlaces has.is has.fits) (subst (λ r. AreInRange (plan_of r)) has.is in_range) in
+    let asked = is_asked arguments (drop 1 words) (said_whole words read has) (subst HasPlaces has.is has.fits) (subst (λ r. AreInRange (plan_of r).rounds) has.is in_range) in
     (drop 1 words, begins, subst (λ r. IsPlanOf (drop 1 words) (plan_of r)) (sym has.is) asked)
 
 -- words ask for one plan
-pub one_plan : (words : List (List ℕ)) (plan other : List RoundPlan) → IsRunForm words plan → IsRunForm words other → plan ≡ other
+pub one_plan : (words : List (List ℕ)) (plan other : Plan) → IsRunForm words plan → IsRunForm words other → plan ≡ other
 one_plan words plan other form again =
     let is = behind_run words plan form in
     let are = behind_run words other again in
@@ -188,13 +210,13 @@ one_plan words plan other form again =
     plan_is (drop 1 words) plan is ∙ ap (λ arguments. plan_of (read_all nothing_read arguments)) same ∙ sym (plan_is (drop 1 words) other are)
 
 -- the same of an answer
-pub some_run : (words : List (List ℕ)) (read : ReadSoFar) (answer : Option (List RoundPlan)) → words ≡ codes "run" ∷ drop 1 words → HasRead words (length words) read
-    → IfSome answer (λ plan. plan ≡ plan_of read) → IfSome answer AreInRange → IfSome answer (IsRunForm words)
+pub some_run : (words : List (List ℕ)) (read : ReadSoFar) (answer : Option Plan) → words ≡ codes "run" ∷ drop 1 words → HasRead words (length words) read
+    → IfSome answer (λ plan. plan ≡ plan_of read) → IfSome answer (λ (plan : Plan). AreInRange plan.rounds) → IfSome answer (IsRunForm words)
 some_run words read None begins has is in_range = is
-some_run words read (Some plan) begins has is in_range = subst (IsRunForm words) (sym is) (is_run words read begins has (subst AreInRange is in_range))
+some_run words read (Some plan) begins has is in_range = subst (IsRunForm words) (sym is) (is_run words read begins has (subst (λ (p : Plan). AreInRange p.rounds) is in_range))
 
-pub none_run : (words : List (List ℕ)) (read : ReadSoFar) (answer : Option (List RoundPlan)) → HasRead words (length words) read → IfNone answer (AreInRange (plan_of read) → ⊥)
-    → IfNone answer ((plan : List RoundPlan) → IsRunForm words plan → ⊥)
+pub none_run : (words : List (List ℕ)) (read : ReadSoFar) (answer : Option Plan) → HasRead words (length words) read → IfNone answer (AreInRange (plan_of read).rounds → ⊥)
+    → IfNone answer ((plan : Plan) → IsRunForm words plan → ⊥)
 none_run words read None has out = λ plan form. out_of_range words read has out plan (behind_run words plan form)
 none_run words read (Some plan) has out = out
 
@@ -204,10 +226,10 @@ first_kept : (number : Option ℕ) (usual : ℕ) → unwrap_or number usual ≡ 
 first_kept None usual = refl
 first_kept (Some number) usual = refl
 
-pub plan_of_kept : (reading : Reading) (entries log bits : ℕ) (rounds : List RoundWords) → entries ≡ unwrap_or reading.entries ENTRIES_USUAL → log ≡ unwrap_or reading.log LOG_USUAL
+pub rounds_of_kept : (reading : Reading) (entries log bits : ℕ) (rounds : List RoundWords) → entries ≡ unwrap_or reading.entries ENTRIES_USUAL → log ≡ unwrap_or reading.log LOG_USUAL
     → bits ≡ unwrap_or reading.bits BITS_USUAL → rounds ≡ reading.closed.items ++ reading.last ∷ []
-    → planned (record { entries = entries; log = log }) bits (map round_of rounds) ≡ plan_of (read_of reading)
-plan_of_kept reading entries log bits rounds are_entries is_log are_bits are =
+    → planned (record { entries = entries; log = log }) bits (map round_of rounds) ≡ (plan_of (read_of reading)).rounds
+rounds_of_kept reading entries log bits rounds are_entries is_log are_bits are =
     ap (λ rs. planned (record { entries = entries; log = log }) bits rs) (ap (map round_of) are ∙ map_push round_of reading.closed.items reading.last)
     ∙ ap (λ n. planned (record { entries = n; log = log }) bits (rounds_of (read_of reading))) (are_entries ∙ first_kept reading.entries ENTRIES_USUAL)
     ∙ ap (λ n. planned (record { entries = first_or ENTRIES_USUAL (option_to_list reading.entries); log = n }) bits (rounds_of (read_of reading))) (is_log ∙ first_kept reading.log LOG_USUAL)

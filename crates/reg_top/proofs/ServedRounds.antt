@@ -1,5 +1,5 @@
 -- The rounds of a run, from the items of their files and the rounds that were served on.
-use Rattle.std.proofs.Common.{◌≡◌, ℕ, zero, suc, ◌+◌, ◌-◌, ◌*◌, ◌^◌, ◌<◌, ◌≤◌, Bool, true, false, List, [], ◌∷◌, ◌++◌, map, length, take, drop, get_or, Option, Some, None, refl, sym, ◌∙◌, ap, ap₂, subst, arith, lit≤}
+use Rattle.std.proofs.Common.{◌≡◌, ℕ, zero, suc, ◌+◌, ◌-◌, ◌*◌, ◌^◌, ◌<◌, ◌≤◌, Bool, true, false, List, [], ◌∷◌, ◌++◌, map, length, take, drop, get_or, Option, Some, None, refl, sym, ◌∙◌, ap, ap₂, subst, arith}
 use Rattle.std.specs.Prelude.{All, IfSome, slice_get, codes, nat_lt}
 use Rattle.std.specs.Fmt.{decimal}
 use Rattle.std.specs.List.{AllByRecursion, AllZip, cons_option, flat_map, range_with_len}
@@ -17,10 +17,10 @@ use Rattle.reg_model.specs.declared.round.Round.{Round}
 use Rattle.reg_model.specs.Calls.{IsRequest}
 use Rattle.reg_model.specs.Limits.{Limits, IsInRange}
 use Rattle.reg_model.specs.Live.{opening_after}
-use Rattle.reg_model.specs.Opening.{Opening, IsOpening}
+use Rattle.reg_model.specs.Opening.{Opening}
 use Rattle.reg_model.specs.Registry.{start_refusal}
 use Rattle.reg_model.specs.Rows.{session_rows, all_rows, AsksLogFirst}
-use Rattle.reg_model.specs.Runs.{RoundRows, IsLawfulRound, IsLawfulRun, next_opening, closing, nothing}
+use Rattle.reg_model.specs.Runs.{RoundRows, IsLawfulRound, IsLawfulRun, next_opening, closing}
 use Rattle.reg_model.proofs.SessionAccounts.{kept_account}
 use Rattle.reg_requests.specs.declared.items.Item.{Item}
 use Rattle.reg_requests.specs.Lines.{line, spaced}
@@ -28,17 +28,21 @@ use Rattle.reg_requests.specs.Requests.{call_in, calls_of}
 use Rattle.reg_session.specs.Files.{Files}
 use Rattle.reg_session.specs.Sessions.{calls_made, ServesRound}
 use Rattle.reg_history.specs.History.{history_text}
+use Rattle.reg_image.specs.declared.image.TheConstants.{DECLARED_MOST}
 use Rattle.reg_history.specs.Rounds.{IsRoundOf, AreRoundsOf}
 use Rattle.reg_history.specs.lines.Values.{IsDeclaredValue, IsRowValue}
 use Rattle.reg_history.proofs.RunValues.{round_values, next_values}
 use Rattle.reg_top.specs.declared.ending.Declined.{Declined}
 use Rattle.reg_top.specs.declared.ending.Declined.TheVariants as declines
 use Rattle.reg_top.specs.declared.refusal.Refusal.{Refusal}
-use Rattle.reg_top.specs.Fetches.{RoundPlan}
-use Rattle.reg_top.specs.commands.Run.{item_lines, session_texts, reply_texts, IsFileOf, MakesCalls, AskLogFirst, accounts_served, MakesPlan, IsRunOutput, round_refusal, RefusesAfter, RefusesRound}
+use Rattle.reg_top.specs.Fetches.{RoundPlan, Plan}
+use Rattle.reg_top.specs.commands.Run.{item_lines, session_texts, reply_texts, IsFileOf, MakesCalls, AskLogFirst, accounts_served, MakesPlan, IsOpeningOf, IsOutputFrom, round_refusal, RefusesAfter, RefusesRound}
 use Rattle.reg_top.specs.inner.RunPlans.{MayBeRun}
-use Rattle.reg_top.specs.inner.RunRounds.{MayBeServed, IsRead, ReadsRound, FitsRound, ServesNext, ServesFrom, left_by, round_accounts, StopsAt, IsDeclinedNext, IsDeclinedAt, account_texts, round_texts, rows_served, all_served}
+use Rattle.reg_top.specs.inner.RunFiles.{MayBeServed, IsRead, ReadsRound}
+use Rattle.reg_top.specs.inner.RunRounds.{FitsRound, ServesNext, ServesFrom, left_by, round_accounts, StopsAt, IsDeclinedNext, IsDeclinedAt, account_texts, round_texts, rows_served, all_served}
 use Rattle.reg_top.proofs.BehindFirst.{front_more, cut_at}
+use Rattle.reg_top.proofs.LiveRounds.{run_leaves}
+use Rattle.reg_top.proofs.RunImages.{Begins}
 
 -- ---- the calls of a file
 
@@ -305,6 +309,11 @@ left_last opening rounds last is =
     let within = slice_get_within rounds (length rounds - 1) last is in
     last_left opening rounds (length rounds - 1) last (omega (arith, within)) is
 
+pub left_none : (opening : Opening) (rounds : List Round) → None ≡ slice_get rounds (length rounds - 1) → left_by opening rounds ≡ opening
+left_none opening [] none = refl
+left_none opening (r ∷ rounds) none =
+    absurd (none-some (get_or (r ∷ rounds) (length (r ∷ rounds) - 1) r) (none ∙ slice_get-get_or (r ∷ rounds) (length (r ∷ rounds) - 1) r (omega arith)))
+
 -- ---- the round at a place of the plan
 
 pub one_plan : (plan : List RoundPlan) (at : ℕ) → at < length plan → (p : RoundPlan) × (slice_get plan at ≡ Some p)
@@ -341,26 +350,27 @@ many_served opening (p ∷ plan) (l ∷ lists) [] serves = absurd serves
 many_served opening (p ∷ plan) (l ∷ lists) (r ∷ rounds) serves = ap suc (many_served r.carried plan lists rounds serves.1)
 
 -- as many rounds were served as places are passed
-pub served_before : (plan : List RoundPlan) (lists : List (List (List Item))) (rounds : List Round) (at : ℕ) → at ≤ length plan → ServesFrom nothing (take at plan) (take at lists) rounds → length rounds ≡ at
-served_before plan lists rounds at low serves = many_served nothing (take at plan) (take at lists) rounds serves ∙ length-take-le at plan low
+pub served_before : (opening : Opening) (plan : List RoundPlan) (lists : List (List (List Item))) (rounds : List Round) (at : ℕ) → at ≤ length plan
+    → ServesFrom opening (take at plan) (take at lists) rounds → length rounds ≡ at
+served_before opening plan lists rounds at low serves = many_served opening (take at plan) (take at lists) rounds serves ∙ length-take-le at plan low
 
 -- one place more
-pub serves_at : (plan : List RoundPlan) (lists : List (List (List Item))) (rounds : List Round) (at : ℕ) (p : RoundPlan) (list : List (List Item)) (round : Round)
-    → AllZip FitsRound plan lists → slice_get plan at ≡ Some p → list ≡ get_or lists at list → ServesFrom nothing (take at plan) (take at lists) rounds
-    → ServesNext p.limits (left_by nothing rounds) list round → ServesFrom nothing (take (at + 1) plan) (take (at + 1) lists) (rounds ++ round ∷ [])
-serves_at plan lists rounds at p list round fits there is serves next =
+pub serves_at : (opening : Opening) (plan : List RoundPlan) (lists : List (List (List Item))) (rounds : List Round) (at : ℕ) (p : RoundPlan) (list : List (List Item)) (round : Round)
+    → AllZip FitsRound plan lists → slice_get plan at ≡ Some p → list ≡ get_or lists at list → ServesFrom opening (take at plan) (take at lists) rounds
+    → ServesNext p.limits (left_by opening rounds) list round → ServesFrom opening (take (at + 1) plan) (take (at + 1) lists) (rounds ++ round ∷ [])
+serves_at opening plan lists rounds at p list round fits there is serves next =
     let low : at < length lists = omega (arith, many_fit plan lists fits, slice_get_within plan at p there) in
     let here : slice_get lists at ≡ Some list = slice_get-get_or lists at list low ∙ ap Some (sym is) in
-    subst (λ (ps : List RoundPlan). ServesFrom nothing ps (take (at + 1) lists) (rounds ++ round ∷ [])) (sym (front_more plan at p there))
-    (subst (λ (ls : List (List (List Item))). ServesFrom nothing (take at plan ++ p ∷ []) ls (rounds ++ round ∷ [])) (sym (front_more lists at list here))
-    (serves_more nothing (take at plan) (take at lists) rounds p list round serves next))
+    subst (λ (ps : List RoundPlan). ServesFrom opening ps (take (at + 1) lists) (rounds ++ round ∷ [])) (sym (front_more plan at p there))
+    (subst (λ (ls : List (List (List Item))). ServesFrom opening (take at plan ++ p ∷ []) ls (rounds ++ round ∷ [])) (sym (front_more lists at list here))
+    (serves_more opening (take at plan) (take at lists) rounds p list round serves next))
 
 -- all places
-pub serves_all : (plan : List RoundPlan) (lists : List (List (List Item))) (rounds : List Round) (at : ℕ) → AllZip FitsRound plan lists → length plan ≤ at
-    → ServesFrom nothing (take at plan) (take at lists) rounds → ServesFrom nothing plan lists rounds
-serves_all plan lists rounds at fits past serves =
-    subst (λ (ps : List RoundPlan). ServesFrom nothing ps lists rounds) (take_all at plan past)
-    (subst (λ (ls : List (List (List Item))). ServesFrom nothing (take at plan) ls rounds) (take_all at lists (omega (arith, many_fit plan lists fits, past))) serves)
+pub serves_all : (opening : Opening) (plan : List RoundPlan) (lists : List (List (List Item))) (rounds : List Round) (at : ℕ) → AllZip FitsRound plan lists → length plan ≤ at
+    → ServesFrom opening (take at plan) (take at lists) rounds → ServesFrom opening plan lists rounds
+serves_all opening plan lists rounds at fits past serves =
+    subst (λ (ps : List RoundPlan). ServesFrom opening ps lists rounds) (take_all at plan past)
+    (subst (λ (ls : List (List (List Item))). ServesFrom opening (take at plan) ls rounds) (take_all at lists (omega (arith, many_fit plan lists fits, past))) serves)
 
 -- the seals with one round more
 pub kept_more : (rounds : List Round) (round : Round) (old new : List (List (List Row))) → old ≡ round_accounts rounds → new ≡ old ++ round.accounts ∷ [] → new ≡ round_accounts (rounds ++ round ∷ [])
@@ -368,12 +378,12 @@ kept_more rounds round old new kept more =
     more ∙ ap (λ (seals : List (List (List Row))). seals ++ round.accounts ∷ []) kept ∙ sym (map-append (λ (r : Round). r.accounts) rounds (round ∷ []))
 
 -- the place at which a round isn't served
-pub declined_at : (plan : List RoundPlan) (lists : List (List (List Item))) (seals : List (List (List Row))) (why : Declined) (rounds : List Round) (at : ℕ) (p : RoundPlan)
-    → slice_get plan at ≡ Some p → ServesFrom nothing (take at plan) (take at lists) rounds → seals ≡ round_accounts rounds
-    → IsDeclinedNext (length rounds) p.limits (left_by nothing rounds) why → IsDeclinedAt plan lists seals why
-declined_at plan lists seals (declines.Refused refusal) rounds at p there serves kept is =
+pub declined_at : (opening : Opening) (plan : List RoundPlan) (lists : List (List (List Item))) (seals : List (List (List Row))) (why : Declined) (rounds : List Round) (at : ℕ) (p : RoundPlan)
+    → slice_get plan at ≡ Some p → ServesFrom opening (take at plan) (take at lists) rounds → seals ≡ round_accounts rounds
+    → IsDeclinedNext (length rounds) p.limits (left_by opening rounds) why → IsDeclinedAt opening plan lists seals why
+declined_at opening plan lists seals (declines.Refused refusal) rounds at p there serves kept is =
     let low = slice_get_within plan at p there in
-    let many : length rounds ≡ at = served_before plan lists rounds at (omega (arith, low)) serves in
+    let many : length rounds ≡ at = served_before opening plan lists rounds at (omega (arith, low)) serves in
     record {
       at = at;
       next = p;
@@ -381,9 +391,9 @@ declined_at plan lists seals (declines.Refused refusal) rounds at p there serves
       rounds = rounds;
       served = serves;
       kept = kept;
-      why = subst (λ n. round_refusal n p.limits (left_by nothing rounds) ≡ Some refusal) many is;
+      why = subst (λ n. round_refusal n p.limits (left_by opening rounds) ≡ Some refusal) many is;
     }
-declined_at plan lists seals declines.NoMemory rounds at p there serves kept is = tt
+declined_at opening plan lists seals declines.NoMemory rounds at p there serves kept is = tt
 
 -- ---- the texts
 
@@ -430,45 +440,50 @@ rounds_read files [] (l ∷ lists) read = absurd read
 rounds_read files (p ∷ plan) [] read = absurd read
 rounds_read files (p ∷ plan) (l ∷ lists) read = (files_read files p.names l read.0, rounds_read files plan lists read.1)
 
--- nothing is loaded
-nothing_opens : IsOpening nothing
-nothing_opens = record { base = lit≤ tt; rising = λ i j d lt low. absurd (omega arith); below = λ k d low. absurd (omega arith) }
-
 -- the first rounds of a plan, as they were read and served
-pub makes_plan : (files : Files) (plan : List RoundPlan) (lists : List (List (List Item))) (rounds : List Round) (serves : ServesFrom nothing plan lists rounds)
+pub makes_plan : (files : Files) (opening : Opening) (plan : List RoundPlan) (lists : List (List (List Item))) (rounds : List Round) (serves : ServesFrom opening plan lists rounds) → Begins opening
     → AllByRecursion IsSized plan → All (λ (p : RoundPlan). p.limits.callers ≡ length p.names) plan → AllZip FitsRound plan lists → AllZip (ReadsRound (Some files)) plan lists
-    → MakesPlan nothing plan files (all_served nothing plan lists rounds serves)
-makes_plan files plan lists rounds serves sized callers fits read =
-    let rows = all_served nothing plan lists rounds serves in
+    → MakesPlan opening plan files (all_served opening plan lists rounds serves)
+makes_plan files opening plan lists rounds serves begins sized callers fits read =
+    let rows = all_served opening plan lists rounds serves in
     record {
       items = lists;
       callers = callers;
       read = rounds_read files plan lists read;
-      sizes = planned_sizes nothing plan lists rounds serves;
-      calls = all_made nothing plan lists rounds serves;
-      alone = all_asked nothing plan lists rounds serves;
-      values = record {
-        carried = All-nil IsDeclaredValue;
-        rows = All-from_recursion HasRowValues rows (all_valued nothing plan lists rounds serves sized fits (All-nil IsDeclaredValue));
-      };
+      sizes = planned_sizes opening plan lists rounds serves;
+      calls = all_made opening plan lists rounds serves;
+      alone = all_asked opening plan lists rounds serves;
+      values = record { carried = begins.values; rows = All-from_recursion HasRowValues rows (all_valued opening plan lists rounds serves sized fits begins.values) };
     }
 
 -- the replies and the history are the output of a run
-pub run_output : (files : Files) (plan : List RoundPlan) (lists : List (List (List Item))) (rounds : List Round) (serves : ServesFrom nothing plan lists rounds) (output : List ℕ)
-    → MayBeRun plan → AllZip FitsRound plan lists → AllZip (ReadsRound (Some files)) plan lists
-    → output ≡ round_texts 0 lists rounds ++ history_text nothing (all_served nothing plan lists rounds serves)
-    → IsRunOutput nothing plan files (all_served nothing plan lists rounds serves) output
+pub run_output : (files : Files) (opening : Opening) (plan : List RoundPlan) (lists : List (List (List Item))) (rounds : List Round) (serves : ServesFrom opening plan lists rounds) (output : List ℕ)
+    → Begins opening → MayBeRun plan → AllZip FitsRound plan lists → AllZip (ReadsRound (Some files)) plan lists
+    → output ≡ round_texts 0 lists rounds ++ history_text opening (all_served opening plan lists rounds serves)
+    → IsOutputFrom opening plan files (all_served opening plan lists rounds serves) output
 unfolding makes_plan
-run_output files plan lists rounds serves output may fits read text =
-    let rows = all_served nothing plan lists rounds serves in
+run_output files opening plan lists rounds serves output begins may fits read text =
+    let rows = all_served opening plan lists rounds serves in
     let sized : AllByRecursion IsSized plan = recursion_from_All IsSized plan may.in_range in
     let many : length plan ≡ length rows =
-    sym (length-map plan (λ (p : RoundPlan). p.limits)) ∙ ap length (planned_sizes nothing plan lists rounds serves) ∙ length-map rows (λ (r : RoundRows). r.limits) in
+    sym (length-map plan (λ (p : RoundPlan). p.limits)) ∙ ap length (planned_sizes opening plan lists rounds serves) ∙ length-map rows (λ (r : RoundRows). r.limits) in
     record {
-      made = makes_plan files plan lists rounds serves sized may.callers fits read;
-      lawful = record { opens = nothing_opens; some = omega (arith, many, may.some); few = omega (arith, many, may.few); lawful = all_lawful nothing plan lists rounds serves sized };
-      text = text ∙ ap (λ lines. lines ++ history_text nothing rows) (all_texts 0 nothing plan lists rounds serves fits);
+      made = makes_plan files opening plan lists rounds serves begins sized may.callers fits read;
+      lawful = record {
+        opens = begins.opens;
+        some = omega (arith, many, may.some);
+        few = omega (arith, many, may.few);
+        lawful = all_lawful opening plan lists rounds serves sized;
+      };
+      text = text ∙ ap (λ lines. lines ++ history_text opening rows) (all_texts 0 opening plan lists rounds serves fits);
     }
+
+-- what is left has an image
+pub left_few : (opening : Opening) (plan : List RoundPlan) (lists : List (List (List Item))) (rounds : List Round) → ServesFrom opening plan lists rounds → Begins opening → MayBeRun plan
+    → length (left_by opening rounds).list ≤ DECLARED_MOST
+left_few opening plan lists rounds serves begins may =
+    subst (λ (o : Opening). length o.list ≤ DECLARED_MOST) (sym (left_is opening plan lists rounds serves))
+    (run_leaves opening (all_served opening plan lists rounds serves) (all_lawful opening plan lists rounds serves (recursion_from_All IsSized plan may.in_range)) begins.few)
 
 -- ---- the first rounds
 
@@ -480,17 +495,18 @@ zip_take R (suc n) (x ∷ xs) [] zip = absurd zip
 zip_take R (suc n) (x ∷ xs) (y ∷ ys) zip = (zip.0, zip_take R n xs ys zip.1)
 
 -- the rounds of a plan before the one that is refused
-abbrev rows_before : (plan : List RoundPlan) (lists : List (List (List Item))) (seals : List (List (List Row))) (refusal : Refusal) → StopsAt plan lists seals refusal → List RoundRows
-rows_before plan lists seals refusal stops = all_served nothing (take stops.at plan) (take stops.at lists) stops.rounds stops.served
+abbrev pub rows_before : (opening : Opening) (plan : List RoundPlan) (lists : List (List (List Item))) (seals : List (List (List Row))) (refusal : Refusal)
+    → StopsAt opening plan lists seals refusal → List RoundRows
+rows_before opening plan lists seals refusal stops = all_served opening (take stops.at plan) (take stops.at lists) stops.rounds stops.served
 
-pub refuses_after : (plan : List RoundPlan) (lists : List (List (List Item))) (seals : List (List (List Row))) (refusal : Refusal) (stops : StopsAt plan lists seals refusal)
-    → MayBeRun plan → RefusesAfter nothing plan (rows_before plan lists seals refusal stops) refusal
-refuses_after plan lists seals refusal stops may =
+pub refuses_after : (opening : Opening) (plan : List RoundPlan) (lists : List (List (List Item))) (seals : List (List (List Row))) (refusal : Refusal) (stops : StopsAt opening plan lists seals refusal)
+    → Begins opening → MayBeRun plan → RefusesAfter opening plan (rows_before opening plan lists seals refusal stops) refusal
+refuses_after opening plan lists seals refusal stops begins may =
     let at = stops.at in
     let before = take at plan in
-    let rows = rows_before plan lists seals refusal stops in
+    let rows = rows_before opening plan lists seals refusal stops in
     let sized : AllByRecursion IsSized before = recursion_from_All IsSized before (All-take IsSized at plan may.in_range) in
-    let sizes = planned_sizes nothing before (take at lists) stops.rounds stops.served in
+    let sizes = planned_sizes opening before (take at lists) stops.rounds stops.served in
     let many : length before ≡ length rows = sym (length-map before (λ (p : RoundPlan). p.limits)) ∙ ap length sizes ∙ length-map rows (λ (r : RoundRows). r.limits) in
     let number : at ≡ length rows = sym (length-take-le at plan (let low = slice_get_within plan at stops.next stops.there in omega (arith, low))) ∙ many in
     record {
@@ -499,29 +515,31 @@ refuses_after plan lists seals refusal stops may =
       rest = drop (at + 1) plan;
       split = cut_at plan at stops.next stops.there;
       sizes = sizes;
-      opens = nothing_opens;
-      lawful = all_lawful nothing before (take at lists) stops.rounds stops.served sized;
-      why = subst (λ n. round_refusal n stops.next.limits (closing nothing rows) ≡ Some refusal) number
-          (subst (λ (o : Opening). round_refusal at stops.next.limits o ≡ Some refusal) (left_is nothing before (take at lists) stops.rounds stops.served) stops.why);
+      opens = begins.opens;
+      lawful = all_lawful opening before (take at lists) stops.rounds stops.served sized;
+      why = subst (λ n. round_refusal n stops.next.limits (closing opening rows) ≡ Some refusal) number
+          (subst (λ (o : Opening). round_refusal at stops.next.limits o ≡ Some refusal) (left_is opening before (take at lists) stops.rounds stops.served) stops.why);
     }
 
 -- they make the calls of the files that were read
-pub refuses_round : (files : Files) (plan : List RoundPlan) (lists : List (List (List Item))) (seals : List (List (List Row))) (refusal : Refusal) (stops : StopsAt plan lists seals refusal)
-    → MayBeRun plan → AllZip FitsRound plan lists → AllZip (ReadsRound (Some files)) plan lists
-    → RefusesRound nothing plan files (rows_before plan lists seals refusal stops) refusal
+pub refuses_round : (files : Files) (plan : Plan) (opening : Opening) (lists : List (List (List Item))) (seals : List (List (List Row))) (refusal : Refusal)
+    (stops : StopsAt opening plan.rounds lists seals refusal) → IsOpeningOf plan.load files opening → Begins opening → MayBeRun plan.rounds → AllZip FitsRound plan.rounds lists
+    → AllZip (ReadsRound (Some files)) plan.rounds lists → RefusesRound plan files (rows_before opening plan.rounds lists seals refusal stops) refusal
 unfolding refuses_after
-refuses_round files plan lists seals refusal stops may fits read =
+refuses_round files plan opening lists seals refusal stops opens begins may fits read =
     let at = stops.at in
-    let before = take at plan in
-    let sized : AllByRecursion IsSized before = recursion_from_All IsSized before (All-take IsSized at plan may.in_range) in
+    let before = take at plan.rounds in
+    let sized : AllByRecursion IsSized before = recursion_from_All IsSized before (All-take IsSized at plan.rounds may.in_range) in
     record {
-      after = refuses_after plan lists seals refusal stops may;
-      made = makes_plan files before (take at lists) stops.rounds stops.served sized (All-take (λ (p : RoundPlan). p.limits.callers ≡ length p.names) at plan may.callers)
-          (zip_take FitsRound at plan lists fits) (zip_take (ReadsRound (Some files)) at plan lists read);
+      opening = opening;
+      opens = opens;
+      after = refuses_after opening plan.rounds lists seals refusal stops begins may;
+      made = makes_plan files opening before (take at lists) stops.rounds stops.served begins sized (All-take (λ (p : RoundPlan). p.limits.callers ≡ length p.names) at plan.rounds may.callers)
+          (zip_take FitsRound at plan.rounds lists fits) (zip_take (ReadsRound (Some files)) at plan.rounds lists read);
     }
 
 -- its seals are the accounts of those rounds
-pub refused_kept : (plan : List RoundPlan) (lists : List (List (List Item))) (seals : List (List (List Row))) (refusal : Refusal) (stops : StopsAt plan lists seals refusal)
-    → AllZip FitsRound plan lists → seals ≡ map accounts_served (all_served nothing (take stops.at plan) (take stops.at lists) stops.rounds stops.served)
-refused_kept plan lists seals refusal stops fits =
-    stops.kept ∙ all_kept nothing (take stops.at plan) (take stops.at lists) stops.rounds stops.served (zip_take FitsRound stops.at plan lists fits)
+pub refused_kept : (opening : Opening) (plan : List RoundPlan) (lists : List (List (List Item))) (seals : List (List (List Row))) (refusal : Refusal) (stops : StopsAt opening plan lists seals refusal)
+    → AllZip FitsRound plan lists → seals ≡ map accounts_served (rows_before opening plan lists seals refusal stops)
+refused_kept opening plan lists seals refusal stops fits =
+    stops.kept ∙ all_kept opening (take stops.at plan) (take stops.at lists) stops.rounds stops.served (zip_take FitsRound stops.at plan lists fits)

@@ -11,7 +11,7 @@ use Rattle.reg_requests.specs.Lines.{line}
 use Rattle.reg_requests.proofs.WorkedLines.{file, wanted, file_items}
 use Rattle.reg_history.specs.History.{history_text}
 use Rattle.reg_model.specs.Rows.{AsksLogFirst}
-use Rattle.reg_top.specs.Fetches.{RoundPlan}
+use Rattle.reg_top.specs.Fetches.{RoundPlan, Plan}
 use Rattle.reg_top.specs.commands.Run.{IsRunOutput, MakesCalls}
 use Rattle.reg_history.specs.lines.Values.{IsDeclaredValue, IsHitValue, IsRowValue, IsRunValue}
 
@@ -44,8 +44,8 @@ pub history : history_text nothing (round ∷ []) ≡
 unfolding history_text unit_text bits_of digits
 history = refl
 
-abbrev pub plan : List RoundPlan
-plan = record { limits = usual; names = codes "a.txt" ∷ [] } ∷ []
+abbrev pub plan : Plan
+plan = record { load = None; save = None; rounds = record { limits = usual; names = codes "a.txt" ∷ [] } ∷ [] }
 
 made : MakesCalls (wanted ∷ []) round
 made zero list e = rw (← ap (λ o. unwrap_or o wanted) e) refl
@@ -98,18 +98,22 @@ values = record {
 asks : All (AsksLogFirst usual nothing) two_units
 asks = All-from_recursion (AsksLogFirst usual nothing) two_units ((λ given full. cc), ((λ given full. cc), ((λ given full. cc), tt)))
 
-pub run_output : IsRunOutput nothing plan files (round ∷ []) output
+pub run_output : IsRunOutput plan files (round ∷ []) output
 unfolding history_text unit_text bits_of digits
 run_output = record {
-  made = record {
-    items = (wanted ∷ []) ∷ [];
-    callers = All-from_recursion (λ (p : RoundPlan). p.limits.callers ≡ length p.names) plan (refl, tt);
-    read = (((file, refl, file_items), tt), tt);
-    sizes = refl;
-    calls = (made, tt);
-    alone = (λ _. asks, tt);
-    values = values;
+  opening = nothing;
+  opens = refl;
+  is = record {
+    made = record {
+      items = (wanted ∷ []) ∷ [];
+      callers = All-from_recursion (λ (p : RoundPlan). p.limits.callers ≡ length p.names) plan.rounds (refl, tt);
+      read = (((file, refl, file_items), tt), tt);
+      sizes = refl;
+      calls = (made, tt);
+      alone = (λ _. asks, tt);
+      values = values;
+    };
+    lawful = lawful;
+    text = refl;
   };
-  lawful = lawful;
-  text = refl;
 }

@@ -9,6 +9,8 @@ use Rattle.iscc_text.specs.declared.read.TextFault.{TextFault}
 use Rattle.iscc_text.specs.declared.read.TextFault.TheVariants as text_faults
 use Rattle.reg_history.specs.declared.check.fault.CheckWhy.{CheckWhy}
 use Rattle.reg_history.specs.declared.check.fault.CheckWhy.TheVariants as line_faults
+use Rattle.reg_image.specs.declared.fault.ImageWhy.{ImageWhy}
+use Rattle.reg_image.specs.declared.fault.ImageWhy.TheVariants as image_faults
 use Rattle.reg_top.specs.declared.refusal.WordFault.{WordFault}
 use Rattle.reg_top.specs.declared.refusal.WordFault.TheVariants as word_faults
 use Rattle.reg_top.specs.declared.refusal.Refusal.{Refusal}
@@ -55,6 +57,17 @@ line_why line_faults.Point = codes "point"
 line_why line_faults.Reply = codes "reply"
 line_why line_faults.End = codes "end"
 
+-- why bytes are no image
+abbrev pub image_why : ImageWhy → List ℕ
+image_why image_faults.Short = codes "short"
+image_why image_faults.Magic = codes "magic"
+image_why image_faults.Version = codes "version"
+image_why image_faults.Kind = codes "kind"
+image_why image_faults.Order = codes "order"
+image_why image_faults.Range = codes "range"
+image_why image_faults.Sum = codes "sum"
+image_why image_faults.Trailing = codes "trailing"
+
 -- why a command refuses what it is given; a file without a history has no line that is told
 abbrev pub refusal_why : Refusal → List ℕ
 refusal_why (refusals.Text fault) = spaced (codes "text" ∷ text_why fault ∷ [])
@@ -62,6 +75,7 @@ refusal_why (refusals.Word at why) = spaced (codes "word" ∷ decimal at ∷ wor
 refusal_why (refusals.Units fault) = spaced (codes "compose" ∷ compose_why fault ∷ [])
 refusal_why refusals.NoHistory = spaced (codes "line" ∷ codes "0" ∷ codes "none" ∷ [])
 refusal_why (refusals.Line fault) = spaced (codes "line" ∷ decimal fault.line ∷ line_why fault.why ∷ [])
+refusal_why (refusals.Image fault) = spaced (codes "image" ∷ image_why fault.why ∷ codes "at" ∷ decimal fault.at ∷ [])
 refusal_why (refusals.TooSmall round live entries) = spaced (codes "round" ∷ decimal round ∷ codes "live" ∷ decimal live ∷ codes "entries" ∷ decimal entries ∷ [])
 refusal_why (refusals.IdsSpent round base log) = spaced (codes "round" ∷ decimal round ∷ codes "base" ∷ decimal base ∷ codes "log" ∷ decimal log ∷ [])
 
@@ -72,6 +86,7 @@ refusal_number (refusals.Word at why) = 10
 refusal_number (refusals.Units fault) = 10
 refusal_number refusals.NoHistory = 10
 refusal_number (refusals.Line fault) = 10
+refusal_number (refusals.Image fault) = 9
 refusal_number (refusals.TooSmall round live entries) = 8
 refusal_number (refusals.IdsSpent round base log) = 11
 
@@ -92,6 +107,10 @@ read_line name = line (codes "fault 4 read " ++ name)
 
 abbrev pub long_line : List ℕ → List ℕ
 long_line name = line (codes "fault 7 too long " ++ name)
+
+-- the line of an image that couldn't be written under this name
+abbrev pub unsaved_line : List ℕ → List ℕ
+unsaved_line name = line (codes "fault 5 write " ++ name)
 
 -- the line of a call for which memory is wanting
 abbrev pub memory_line : List ℕ

@@ -6,12 +6,14 @@ use Rattle.reg_requests.specs.Numbers.{IsNumber}
 use Rattle.reg_model.specs.declared.sizes.TheConstants.{ENTRIES_USUAL, LOG_USUAL, BITS_USUAL}
 use Rattle.reg_model.specs.declared.round.TheConstants.{ROUNDS_MOST}
 use Rattle.reg_model.specs.Limits.{IsInRange}
-use Rattle.reg_top.specs.Fetches.{RoundPlan, Command}
+use Rattle.reg_top.specs.Fetches.{RoundPlan, Plan, Command}
 use Rattle.reg_top.specs.Fetches.Command.{Run, Explain, Compose, Instance, Check}
 use Rattle.reg_top.specs.declared.words.SideWord.{SideWord}
 use Rattle.reg_top.specs.declared.words.SideWord.TheVariants as side
 use Rattle.reg_top.specs.declared.run_words.RunOption.{RunOption}
 use Rattle.reg_top.specs.declared.run_words.RunOption.TheVariants.{Entries, Log, Bits}
+use Rattle.reg_top.specs.declared.run_words.FileOption.{FileOption}
+use Rattle.reg_top.specs.declared.run_words.FileOption.TheVariants.{Load, Save}
 use Rattle.reg_top.specs.declared.run_words.MarkSizes.{MarkSizes}
 
 -- a word that isn't empty and doesn't begin with `-`
@@ -21,9 +23,11 @@ IsValue (first ∷ word) = first ≢ 45
 
 -- ---- what stands behind `run`
 
--- an option with its number, a mark between two rounds with the sizes that it sets, if any, or the name of a file
+-- an option with its number, an option with the name of an image, a mark between two rounds with the sizes that it sets, if any, or
+-- the name of a session's file
 pub data Argument : Type 0 where
   Set : RunOption → ℕ → Argument
+  SetFile : FileOption → List ℕ → Argument
   Mark : Option MarkSizes → Argument
   Name : List ℕ → Argument
 
@@ -31,6 +35,10 @@ abbrev pub option_text : RunOption → List ℕ
 option_text Entries = codes "--entries"
 option_text Log = codes "--log"
 option_text Bits = codes "--bits"
+
+abbrev pub file_option_text : FileOption → List ℕ
+file_option_text Load = codes "--load"
+file_option_text Save = codes "--save"
 
 -- the text is that of a number, and this is its value
 pub record IsNumberOf (text : List ℕ) (number : ℕ) : Type 0 where
@@ -47,9 +55,10 @@ pub record IsFileName (word : List ℕ) : Type 0 where
   pub value : IsValue word
   pub no_mark : (sizes : Option MarkSizes) → IsMark word sizes → ⊥
 
--- these words say the argument; an option and its number are two words, or one with `=` between them
+-- these words say the argument; an option and its number or name are two words, or one with `=` between them
 abbrev pub Says : Argument → List (List ℕ) → Type 0
 Says (Set option number) words = (text : List ℕ) × IsNumberOf text number × ((words ≡ option_text option ∷ text ∷ []) ⊎ (words ≡ (option_text option ++ (codes "=" ++ text)) ∷ []))
+Says (SetFile option name) words = IsValue name × ((words ≡ file_option_text option ∷ name ∷ []) ⊎ (words ≡ (file_option_text option ++ (codes "=" ++ name)) ∷ []))
 Says (Mark sizes) words = (word : List ℕ) × IsMark word sizes × (words ≡ word ∷ [])
 Says (Name name) words = IsFileName name × (words ≡ name ∷ [])
 
@@ -71,6 +80,7 @@ set_number Log (Set Bits number) = None
 set_number Bits (Set Entries number) = None
 set_number Bits (Set Log number) = None
 set_number Bits (Set Bits number) = Some number
+set_number option (SetFile other name) = None
 set_number option (Mark sizes) = None
 set_number option (Name name) = None
 
@@ -83,6 +93,20 @@ abbrev pub first_or : ℕ → List ℕ → ℕ
 first_or usual [] = usual
 first_or usual (number ∷ more) = number
 
+-- the name that the argument sets for the option
+abbrev pub set_file : FileOption → Argument → Option (List ℕ)
+set_file Load (SetFile Load name) = Some name
+set_file Load (SetFile Save name) = None
+set_file Save (SetFile Load name) = None
+set_file Save (SetFile Save name) = Some name
+set_file option (Set other number) = None
+set_file option (Mark sizes) = None
+set_file option (Name name) = None
+
+-- the names that are set for it
+abbrev pub set_files : FileOption → List Argument → List (List ℕ)
+set_files option arguments = filter_map (set_file option) arguments
+
 -- ---- rounds
 
 -- a round as it is said: the sizes that the mark before it sets, if any, and the names of its files
@@ -93,6 +117,7 @@ pub record MarkedRound : Type 0 where
 -- a mark or a name
 abbrev pub is_placed : Argument → Bool
 is_placed (Set option number) = false
+is_placed (SetFile option name) = false
 is_placed (Mark sizes) = true
 is_placed (Name name) = true
 
@@ -117,23 +142,26 @@ planned before bits (round ∷ rounds) = round_plan (sizes_from before round.siz
 abbrev pub first_sizes : List Argument → MarkSizes
 first_sizes arguments = record { entries = first_or ENTRIES_USUAL (set_numbers Entries arguments); log = first_or LOG_USUAL (set_numbers Log arguments) }
 
--- The words behind `run` ask for these rounds: each option stands once at most, anywhere; marks divide the names of the files
+-- The words behind `run` ask for this: each option stands once at most, anywhere; marks divide the names of the sessions' files
 -- into one to eight (`ROUNDS_MOST`) rounds of one to sixteen files; and all sizes are in range.
-pub record IsPlanOf (words : List (List ℕ)) (plan : List RoundPlan) : Type 0 where
+pub record IsPlanOf (words : List (List ℕ)) (plan : Plan) : Type 0 where
   pub arguments : List Argument
   pub said : AreSaid arguments words
   pub once : (option : RunOption) → length (set_numbers option arguments) ≤ 1
+  pub file_once : (option : FileOption) → length (set_files option arguments) ≤ 1
+  pub load : plan.load ≡ slice_get (set_files Load arguments) 0
+  pub save : plan.save ≡ slice_get (set_files Save arguments) 0
   pub first : List (List ℕ)
   pub next : List MarkedRound
   pub placed : filter is_placed arguments ≡ map Name first ++ flat_map round_arguments next
-  pub are : plan ≡ planned (first_sizes arguments) (first_or BITS_USUAL (set_numbers Bits arguments)) (record { sizes = None; names = first } ∷ next)
-  pub few : length plan ≤ ROUNDS_MOST
-  pub in_range : All (λ (p : RoundPlan). IsInRange p.limits) plan
+  pub are : plan.rounds ≡ planned (first_sizes arguments) (first_or BITS_USUAL (set_numbers Bits arguments)) (record { sizes = None; names = first } ∷ next)
+  pub few : length plan.rounds ≤ ROUNDS_MOST
+  pub in_range : All (λ (p : RoundPlan). IsInRange p.limits) plan.rounds
 
 -- ---- the commands
 
--- the words are `run` and arguments that ask for these rounds
-abbrev pub IsRunForm : List (List ℕ) → List RoundPlan → Type 0
+-- the words are `run` and arguments that ask for this
+abbrev pub IsRunForm : List (List ℕ) → Plan → Type 0
 IsRunForm words plan = (behind : List (List ℕ)) × (words ≡ codes "run" ∷ behind) × IsPlanOf behind plan
 
 -- the words are a command's first word and one value

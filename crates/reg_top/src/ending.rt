@@ -15,6 +15,8 @@ pub enum Ending {
     Refused(Refusal),
     /// The output couldn't be written whole.
     Unwritten,
+    /// The image that is to be saved couldn't be put under its name.
+    Unsaved,
     /// Memory is wanting.
     NoMemory,
 }
@@ -40,7 +42,7 @@ impl Ending {
             Ending::Done => 0,
             Ending::Unread(fault) => number_of(fault),
             Ending::Refused(refusal) => refusal.number(),
-            Ending::Unwritten => 5,
+            Ending::Unwritten | Ending::Unsaved => 5,
             Ending::NoMemory => 6,
         }
     }

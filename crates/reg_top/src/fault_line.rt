@@ -3,7 +3,7 @@ ghost use Rattle.std.specs.Fmt.{decimal};
 ghost use Rattle.reg_requests.specs.Lines.{line, spaced};
 ghost use Rattle.reg_session.specs.Faults.{HasCause};
 ghost use Rattle.reg_session.specs.Outside.{TakesWhole, TakesPart, Tells, sink_view};
-ghost use Rattle.reg_top.specs.FaultLines.{words_line, refusal_line, text_why, word_why, iscc_why, compose_why, line_why};
+ghost use Rattle.reg_top.specs.FaultLines.{words_line, unsaved_line, refusal_line, text_why, word_why, iscc_why, compose_why, line_why, image_why};
 ghost use Rattle.reg_top.specs.inner.Endings.{unread_line, declined_line, declined_ending};
 
 use crate::ending::{Declined, Ending, WORDS};
@@ -13,6 +13,7 @@ use iscc_code::{ComposeFault, IsccFault};
 use iscc_text::TextFault;
 use itoa::Buffer;
 use reg_history::{CheckFault, CheckWhy};
+use reg_image::{ImageFault, ImageWhy};
 use reg_session::{Failed, FetchFault, Sink};
 
 /// Tells that the words are of no form, and answers that status. Takes no memory, as no function here does.
@@ -38,6 +39,15 @@ pub(crate) fn unread<K: Sink>(sink: &mut K, fault: FetchFault, name: &str) -> En
         FetchFault::NoMemory => tell(sink, b"fault 6 memory", b""),
     }
     Ending::Unread(fault)
+}
+
+/// Tells that an image couldn't be put under this name.
+pub(crate) fn unsaved<K: Sink>(sink: &mut K, name: &str) -> Ending
+    ensures ending { result ≡ Ending.Unsaved }
+    ensures told { Tells (sink_view (K.taken sink.old) (K.faults sink.old)) (sink_view (K.taken sink.new) (K.faults sink.new)) (unsaved_line name.now) }
+{
+    tell(sink, b"fault 5 write ", name.as_bytes());
+    Ending::Unsaved
 }
 
 /// Tells why what a command is given makes no output.
@@ -66,6 +76,7 @@ fn tell_refusal<K: Sink>(sink: &mut K, why: Refusal)
         Refusal::Units(fault) => tell(sink, b"fault 10 compose ", compose_fault(fault)),
         Refusal::NoHistory => tell(sink, b"fault 10 line 0 none", b""),
         Refusal::Line(fault) => tell_line(sink, fault),
+        Refusal::Image(fault) => tell_image(sink, fault),
         Refusal::TooSmall {
             round,
             live,
@@ -108,6 +119,17 @@ fn tell_line<K: Sink>(sink: &mut K, fault: CheckFault)
         return;
     }
     tell(sink, b" ", line_fault(fault.why));
+}
+
+fn tell_image<K: Sink>(sink: &mut K, fault: ImageFault)
+    ensures { Tells (sink_view (K.taken sink.old) (K.faults sink.old)) (sink_view (K.taken sink.new) (K.faults sink.new))
+        (line (codes "fault 9 " ++ spaced (codes "image" ∷ image_why fault.why ∷ codes "at" ∷ decimal fault.at ∷ []))) }
+{
+    if let Err(Failed) = write_two(sink, b"fault 9 image ", image_fault(fault.why)) {
+        return;
+    }
+    let mut buffer = Buffer::new();
+    tell(sink, b" at ", buffer.format(fault.at).as_bytes());
 }
 
 fn tell_small<K: Sink>(sink: &mut K, round: u64, live: u64, entries: u32)
@@ -200,6 +222,21 @@ fn line_fault(why: CheckWhy) -> &'static [u8]
         CheckWhy::Point => b"point",
         CheckWhy::Reply => b"reply",
         CheckWhy::End => b"end",
+    }
+}
+
+fn image_fault(why: ImageWhy) -> &'static [u8]
+    ensures { result.now ≡ image_why why }
+{
+    match why {
+        ImageWhy::Short => b"short",
+        ImageWhy::Magic => b"magic",
+        ImageWhy::Version => b"version",
+        ImageWhy::Kind => b"kind",
+        ImageWhy::Order => b"order",
+        ImageWhy::Range => b"range",
+        ImageWhy::Sum => b"sum",
+        ImageWhy::Trailing => b"trailing",
     }
 }
 

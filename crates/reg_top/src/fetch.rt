@@ -19,6 +19,7 @@ pub(crate) fn fetch_file<F: Shelf>(
     ensures quiet { OnOk result (F.fetch_faults shelf.new ≡ F.fetch_faults shelf.old) }
     ensures cause { IfErr result (λ fault. HasCause (F.fetch_faults shelf.old) (F.fetch_faults shelf.new) (fault ≡ Failed)) }
     ensures same { F.files shelf.new ≡ F.files shelf.old }
+    ensures puts { F.put_faults shelf.new ≡ F.put_faults shelf.old }
 {
     let mut file = Vec::new(alloc);
     match shelf.fetch(name, &mut file, limit) {

@@ -2,7 +2,7 @@
 
 ghost use Rattle.reg_top.specs.Laws.{OneCommand, LoneWordsTellOutput};
 
-/// A command line is of the form of one command at most, and a `run` asks for one list of rounds.
+/// A command line is of the form of one command at most, and a `run` asks for one plan.
 pub fn a_command_line_has_one_command()
     ensures { OneCommand }
 {}

@@ -4,6 +4,7 @@ ghost use Rattle.reg_top.specs.FaultLines.{refusal_number};
 use iscc_code::ComposeFault;
 use iscc_text::TextFault;
 use reg_history::CheckFault;
+use reg_image::ImageFault;
 
 /// Why a word that is to be composed stands for no unit.
 #[derive(Clone, Copy, Debug, PartialEq, Eq)]
@@ -27,6 +28,8 @@ pub enum Refusal {
     NoHistory,
     /// This line of the history in the file, counted from 1, is the first that can't stand.
     Line(CheckFault),
+    /// The file to load has no image, and this is its first fault.
+    Image(ImageFault),
     /// More declarations are live than the round with this number has entries.
     TooSmall { round: u64, live: u64, entries: u32 },
     /// The last id of the round with this number would be 2^34 or more.
@@ -44,6 +47,7 @@ impl Refusal {
             Refusal::Units(_) => 10,
             Refusal::NoHistory => 10,
             Refusal::Line(_) => 10,
+            Refusal::Image(_) => 9,
             Refusal::TooSmall { .. } => 8,
             Refusal::IdsSpent { .. } => 11,
         }

@@ -5,8 +5,9 @@ ghost use Rattle.std.specs.Prelude.{◌≡◌, ◌≢◌, ◌<◌, ◌≤◌, �
 ghost use Rattle.reg_model.specs.declared.round.TheConstants.{ROUNDS_MOST as MOST};
 ghost use Rattle.reg_model.specs.Limits.{IsInRange};
 ghost use Rattle.reg_requests.specs.Numbers.{IsNumber};
-ghost use Rattle.reg_top.specs.Fetches.{RoundPlan};
-ghost use Rattle.reg_top.specs.Words.{Argument, Says, IsMark, IsValue, IsNumberOf, IsRunForm, IsPlanOf, option_text, planned, round_plan, sizes_from};
+ghost use Rattle.std.specs.Option.{option_map};
+ghost use Rattle.reg_top.specs.Fetches.{RoundPlan, Plan};
+ghost use Rattle.reg_top.specs.Words.{Argument, Says, IsMark, IsValue, IsNumberOf, IsRunForm, IsPlanOf, option_text, file_option_text, planned, round_plan, sizes_from};
 ghost use Rattle.reg_top.specs.Words.Argument.{Mark, Name};
 ghost use Rattle.reg_top.specs.inner.RunWords.{argument_of, StandsAt, NoneStandsAt, HasRead, HasPlaces, read_more, read_of, nothing_read, round_of, plan_of as the_plan};
 ghost use Rattle.reg_top.specs.inner.RunPlans.{plan_kept, plans_kept};
@@ -26,6 +27,15 @@ pub enum RunOption {
     Entries,
     Log,
     Bits,
+}
+
+/// An option of `run` that names a file with an image.
+#[derive(Clone, Copy, Debug, PartialEq, Eq)]
+pub enum FileOption {
+    /// The image with which the run begins.
+    Load,
+    /// The image of what it leaves.
+    Save,
 }
 
 /// The entries and the log that a mark sets for the rounds behind it.
@@ -51,29 +61,33 @@ struct RoundWords<'a> {
     names: ArrayVec<&'a str, FILES_MOST>,
 }
 
-/// The rounds of a run: the sizes of each, and the names of its files. Contracts see the list of plans.
+/// What a run is asked for: the images that it loads and saves, and its rounds, with the sizes of each and the names of its files.
+/// Contracts see that record.
 #[derive(Debug, Drop)]
 pub struct RunPlan<'a> {
+    load: Option<&'a str>,
+    save: Option<&'a str>,
     sizes: ArrayVec<RoundSizes, ROUNDS_MOST>,
     rounds: ArrayVec<RoundWords<'a>, ROUNDS_MOST>,
 }
 
 impl<'a> Model for RunPlan<'a> {
-    ghost use Rattle.std.specs.Prelude.{◌≡◌, List, length};
-    ghost use Rattle.reg_top.specs.Fetches.{RoundPlan};
+    ghost use Rattle.std.specs.Prelude.{◌≡◌, length};
+    ghost use Rattle.std.specs.Option.{option_map};
+    ghost use Rattle.reg_top.specs.Fetches.{Plan};
     ghost use Rattle.reg_top.specs.inner.RunPlans.{plans_kept};
 
-    ghost Value = { List RoundPlan };
+    ghost Value = { Plan };
 
-    ghost view = { λ p. plans_kept p.sizes.items p.rounds.items };
+    ghost view = { λ p. record { load = option_map (λ name. name.now) p.load; save = option_map (λ name. name.now) p.save; rounds = plans_kept p.sizes.items p.rounds.items } };
 
     ghost invariant = { λ p. length p.sizes.items ≡ length p.rounds.items };
 }
 
-/// The rounds that the words of a `run` ask for, if they are of that form.
+/// What the words of a `run` ask for, if they are of that form.
 pub(crate) fn run_plan(words: &Args) -> Option<RunPlan<'_>>
     ensures found { IfSome result (IsRunForm words.now) }
-    ensures none { IfNone result ((plan : List RoundPlan) → IsRunForm words.now plan → ⊥) }
+    ensures none { IfNone result ((plan : Plan) → IsRunForm words.now plan → ⊥) }
 {
     if words.len() == 0 || words.word(0) != "run" {
         return None;
@@ -83,18 +97,32 @@ pub(crate) fn run_plan(words: &Args) -> Option<RunPlan<'_>>
 }
 
 impl<'a> RunPlan<'a> {
+    /// The name of the file with the image to begin with.
+    pub(crate) fn load(&self) -> Option<&'a str>
+        ensures { option_map (λ name. name.now) result ≡ self.now.load }
+    {
+        self.load
+    }
+
+    /// The name under which the image of what is left is to be put.
+    pub(crate) fn save(&self) -> Option<&'a str>
+        ensures { option_map (λ name. name.now) result ≡ self.now.save }
+    {
+        self.save
+    }
+
     /// How many rounds there are.
     pub(crate) fn len(&self) -> usize
-        ensures { result ≡ length self.now }
+        ensures { result ≡ length self.now.rounds }
     {
         self.rounds.len()
     }
 
     /// The sizes of the round at this place, the first at 0.
     pub(crate) fn sizes(&self, at: usize) -> Sizes
-        requires within { at < length self.now }
-        requires in_range { All (λ (p : RoundPlan). IsInRange p.limits) self.now }
-        ensures { IfSome (slice_get self.now at) (λ (p : RoundPlan). result ≡ p.limits) }
+        requires within { at < length self.now.rounds }
+        requires in_range { All (λ (p : RoundPlan). IsInRange p.limits) self.now.rounds }
+        ensures { IfSome (slice_get self.now.rounds at) (λ (p : RoundPlan). result ≡ p.limits) }
     {
         let sizes = &self.sizes.as_slice()[at];
         Sizes::new(sizes.entries, sizes.log, sizes.bits, sizes.callers).unwrap()
@@ -102,8 +130,8 @@ impl<'a> RunPlan<'a> {
 
     /// The names of its files.
     pub(crate) fn names(&self, at: usize) -> &[&'a str]
-        requires { at < length self.now }
-        ensures { IfSome (slice_get self.now at) (λ (p : RoundPlan). map (λ name. name.now) result.now ≡ p.names) }
+        requires { at < length self.now.rounds }
+        ensures { IfSome (slice_get self.now.rounds at) (λ (p : RoundPlan). map (λ name. name.now) result.now ≡ p.names) }
     {
         self.rounds.as_slice()[at].names.as_slice()
     }
@@ -113,16 +141,19 @@ impl<'a> RunPlan<'a> {
 #[derive(Clone, Copy, Debug)]
 enum Said<'a> {
     Set(RunOption, u64),
+    SetFile(FileOption, &'a str),
     Mark(Option<MarkSizes>),
     Name(&'a str),
 }
 
-// What is read of the words so far: the numbers of the options, the rounds that are closed, and the last.
+// What is read of the words so far: what the options set, the rounds that are closed, and the last.
 #[derive(Debug, Drop)]
 struct Reading<'a> {
     entries: Option<u64>,
     log: Option<u64>,
     bits: Option<u64>,
+    load: Option<&'a str>,
+    save: Option<&'a str>,
     closed: ArrayVec<RoundWords<'a>, ROUNDS_MOST>,
     last: RoundWords<'a>,
 }
@@ -131,7 +162,7 @@ struct Reading<'a> {
 fn read_behind(words: &Args) -> Option<Reading<'_>>
     requires { 1 ≤ length words.now }
     ensures found { IfSome result (λ reading. HasRead words.now (length words.now) (read_of reading)) }
-    ensures none { IfNone result ((plan : List RoundPlan) → IsPlanOf (drop 1 words.now) plan → ⊥) }
+    ensures none { IfNone result ((plan : Plan) → IsPlanOf (drop 1 words.now) plan → ⊥) }
 {
     let mut reading = Reading::new();
     let mut at = 1;
@@ -155,13 +186,49 @@ fn argument_at<'a>(words: &'a Args, at: usize) -> Option<(Said<'a>, usize)>
     if is_value(word) {
         return Some((placed_by(word), 1));
     }
-    let (option, rest) = option_of(word)?;
+    if let Some((option, rest)) = option_of(word) {
+        return number_set(words, at, option, rest);
+    }
+    let (option, rest) = file_option_of(word)?;
+    file_set(words, at, option, rest)
+}
+
+// The argument that sets the option with which the word at this place begins, where this stands behind it.
+fn number_set<'a>(
+    words: &'a Args,
+    at: usize,
+    option: RunOption,
+    rest: &str,
+) -> Option<(Said<'a>, usize)>
+    requires { slice_get words.now at ≡ Some (option_text option ++ rest.now) }
+    ensures found { IfSome result (λ found. StandsAt words.now at (argument_of found.0) found.1) }
+    ensures none { IfNone result (NoneStandsAt words.now at) }
+{
     if rest.is_empty() {
         let number = number_after(words, at)?;
         return Some((Said::Set(option, number), 2));
     }
     let number = number_behind(rest)?;
     Some((Said::Set(option, number), 1))
+}
+
+// The same for an option that names a file.
+fn file_set<'a>(
+    words: &'a Args,
+    at: usize,
+    option: FileOption,
+    rest: &'a str,
+) -> Option<(Said<'a>, usize)>
+    requires { slice_get words.now at ≡ Some (file_option_text option ++ rest.now) }
+    ensures found { IfSome result (λ found. StandsAt words.now at (argument_of found.0) found.1) }
+    ensures none { IfNone result (NoneStandsAt words.now at) }
+{
+    if rest.is_empty() {
+        let name = value_after(words, at)?;
+        return Some((Said::SetFile(option, name), 2));
+    }
+    let name = value_behind(rest)?;
+    Some((Said::SetFile(option, name), 1))
 }
 
 // The mark or the name that a value is.
@@ -190,6 +257,42 @@ fn option_of(word: &str) -> Option<(RunOption, &str)>
         return Some((RunOption::Bits, rest));
     }
     None
+}
+
+// The option of a file that a word begins with, and what stands behind its text.
+fn file_option_of(word: &str) -> Option<(FileOption, &str)>
+    ensures found { IfSome result (λ found. word.now ≡ file_option_text found.0 ++ found.1.now) }
+    ensures none { IfNone result ((option : FileOption) (rest : List ℕ) → word.now ≡ file_option_text option ++ rest → ⊥) }
+{
+    if let Some(rest) = word.strip_prefix("--load") {
+        return Some((FileOption::Load, rest));
+    }
+    if let Some(rest) = word.strip_prefix("--save") {
+        return Some((FileOption::Save, rest));
+    }
+    None
+}
+
+// The value in the word after this place.
+fn value_after(words: &Args, at: usize) -> Option<&str>
+    requires { at < length words.now }
+    ensures found { IfSome result (λ value. IsValue value.now × (slice_get words.now (at + 1) ≡ Some value.now)) }
+    ensures none { IfNone result ((value : List ℕ) → IsValue value → slice_get words.now (at + 1) ≡ Some value → ⊥) }
+{
+    if words.len() - at < 2 {
+        return None;
+    }
+    let value = words.word(at + 1);
+    if is_value(value) { Some(value) } else { None }
+}
+
+// The value behind an equality sign.
+fn value_behind(rest: &str) -> Option<&str>
+    ensures found { IfSome result (λ value. IsValue value.now × (rest.now ≡ codes "=" ++ value.now)) }
+    ensures none { IfNone result ((value : List ℕ) → IsValue value → rest.now ≡ codes "=" ++ value → ⊥) }
+{
+    let value = rest.strip_prefix("=")?;
+    if is_value(value) { Some(value) } else { None }
 }
 
 // The number in the word after this place.
@@ -236,6 +339,8 @@ impl<'a> Reading<'a> {
             entries: None,
             log: None,
             bits: None,
+            load: None,
+            save: None,
             closed: ArrayVec::new(),
             last: RoundWords {
                 sizes: None,
@@ -255,6 +360,8 @@ impl<'a> Reading<'a> {
             Said::Set(RunOption::Entries, number) => set(&mut self.entries, number),
             Said::Set(RunOption::Log, number) => set(&mut self.log, number),
             Said::Set(RunOption::Bits, number) => set(&mut self.bits, number),
+            Said::SetFile(FileOption::Load, name) => set(&mut self.load, name),
+            Said::SetFile(FileOption::Save, name) => set(&mut self.save, name),
             Said::Mark(sizes) => self.close(sizes),
             Said::Name(name) => self.add(name),
         }
@@ -296,8 +403,8 @@ impl<'a> Reading<'a> {
     fn planned(self) -> Option<RunPlan<'a>>
         requires { HasPlaces (read_of self) }
         ensures found { IfSome result (λ plan. plan ≡ the_plan (read_of self.entry)) }
-        ensures in_range { IfSome result (All (λ (p : RoundPlan). IsInRange p.limits)) }
-        ensures none { IfNone result (All (λ (p : RoundPlan). IsInRange p.limits) (the_plan (read_of self.entry)) → ⊥) }
+        ensures in_range { IfSome result (λ plan. All (λ (p : RoundPlan). IsInRange p.limits) plan.rounds) }
+        ensures none { IfNone result (All (λ (p : RoundPlan). IsInRange p.limits) (the_plan (read_of self.entry)).rounds → ⊥) }
     {
         let bits = self.bits.unwrap_or(BITS_USUAL as u64);
         let first = MarkSizes {
@@ -307,19 +414,24 @@ impl<'a> Reading<'a> {
         let mut rounds = self.closed;
         rounds.push(self.last);
         let sizes = sizes_of(first, bits, rounds.as_slice())?;
-        Some(RunPlan { sizes, rounds })
+        Some(RunPlan {
+            load: self.load,
+            save: self.save,
+            sizes,
+            rounds,
+        })
     }
 }
 
 // Sets an option that isn't set yet.
-fn set(option: &mut Option<u64>, number: u64) -> bool
-    ensures taken { result ≡ true → (option.old ≡ None) × (option.new ≡ Some number) }
+fn set<T: Copy>(option: &mut Option<T>, value: T) -> bool
+    ensures taken { result ≡ true → (option.old ≡ None) × (option.new ≡ Some value) }
     ensures refused { result ≡ false → option.old ≢ None }
 {
     if option.is_some() {
         return false;
     }
-    *option = Some(number);
+    *option = Some(value);
     true
 }
 

@@ -1,5 +1,5 @@
 ghost use Rattle.std.specs.Prelude.{◌≡◌, ◌↔◌, [], IsNone, IfSome, IfNone};
-ghost use Rattle.reg_session.specs.Outside.{outside};
+ghost use Rattle.reg_session.specs.Outside.{outside, shelf_view, sink_view};
 ghost use Rattle.reg_top.specs.Words.{IsSideCommand};
 ghost use Rattle.reg_top.specs.Outcomes.{IsOutcome};
 
@@ -27,8 +27,8 @@ pub fn side<F: Shelf, K: Sink>(
 
     // It ends as `top` does: what is written, and the cause of each status. No rounds are served.
     ensures outcome { IfSome result (IsOutcome words.now
-        (outside (F.files shelf.old) (F.fetch_faults shelf.old) (K.taken sink.old) (K.faults sink.old))
-        (outside (F.files shelf.new) (F.fetch_faults shelf.new) (K.taken sink.new) (K.faults sink.new)) []) }
+        (outside (shelf_view (F.files shelf.old) (F.fetch_faults shelf.old) (F.put_faults shelf.old)) (sink_view (K.taken sink.old) (K.faults sink.old)))
+        (outside (shelf_view (F.files shelf.new) (F.fetch_faults shelf.new) (F.put_faults shelf.new)) (sink_view (K.taken sink.new) (K.faults sink.new))) []) }
 {
     match side_word(words) {
         None => None,

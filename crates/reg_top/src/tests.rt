@@ -4,6 +4,7 @@ use std::sync::Wait;
 use std::test::Fail;
 use std::thread::Threads;
 
+mod images;
 mod lines;
 mod rounds;
 mod sessions;

@@ -1,5 +1,5 @@
--- `run`: what it writes, the accounts of its sessions, and why it refuses a round.
-use Rattle.std.specs.Prelude.{◌≡◌, ℕ, ◌+◌, Option, None, List, [], ◌∷◌, ◌++◌, length, map, slice_get, All, Some, codes}
+-- `run`: what it writes and saves, the accounts of its sessions, and why it refuses an image or a round.
+use Rattle.std.specs.Prelude.{◌≡◌, ◌⊎◌, ℕ, ◌+◌, Option, None, IsSome, List, [], ◌∷◌, ◌++◌, length, map, slice_get, All, Some, codes}
 use Rattle.std.specs.List.{AllZip, range_with_len}
 use Rattle.std.specs.Fmt.{decimal}
 use Rattle.reg_model.specs.declared.reply.Row.{Row}
@@ -9,7 +9,10 @@ use Rattle.reg_model.specs.Registry.{start_refusal}
 use Rattle.reg_model.specs.Limits.{Limits}
 use Rattle.reg_model.specs.Opening.{Opening, IsOpening}
 use Rattle.reg_model.specs.Rows.{session_rows, AsksLogFirst}
-use Rattle.reg_model.specs.Runs.{RoundRows, IsHistory, IsLawfulRun, next_opening, closing}
+use Rattle.reg_model.specs.Runs.{RoundRows, IsHistory, IsLawfulRun, nothing, next_opening, closing}
+use Rattle.reg_image.specs.declared.fault.ImageFault.{ImageFault}
+use Rattle.reg_image.specs.Images.{IsImage}
+use Rattle.reg_image.specs.ImageFaults.{image_fault}
 use Rattle.reg_requests.specs.declared.items.Item.{Item}
 use Rattle.reg_requests.specs.declared.items.Item.TheVariants as items
 use Rattle.reg_session.specs.Files.{Files}
@@ -17,8 +20,8 @@ use Rattle.reg_requests.specs.Lines.{line, spaced, reply_text, bad_text, kind_of
 use Rattle.reg_requests.specs.Requests.{AreItems, calls_of}
 use Rattle.reg_history.specs.History.{history_text}
 use Rattle.reg_top.specs.declared.refusal.Refusal.{Refusal}
-use Rattle.reg_top.specs.declared.refusal.Refusal.TheVariants.{TooSmall, IdsSpent}
-use Rattle.reg_top.specs.Fetches.{RoundPlan}
+use Rattle.reg_top.specs.declared.refusal.Refusal.TheVariants.{Image, TooSmall, IdsSpent}
+use Rattle.reg_top.specs.Fetches.{RoundPlan, Plan}
 use Rattle.reg_history.specs.lines.Values.{IsRunValue}
 
 -- a line for each item of a file: the refusal, or the reply of the call's row
@@ -71,10 +74,27 @@ pub record MakesPlan (opening : Opening) (plan : List RoundPlan) (files : Files)
   pub values : IsRunValue opening rounds
 
 -- The output is that of one lawful run, which makes the calls of the planned files.
-pub record IsRunOutput (opening : Opening) (plan : List RoundPlan) (files : Files) (rounds : List RoundRows) (output : List ℕ) : Type 0 where
+pub record IsOutputFrom (opening : Opening) (plan : List RoundPlan) (files : Files) (rounds : List RoundRows) (output : List ℕ) : Type 0 where
   pub made : MakesPlan opening plan files rounds
   pub lawful : IsHistory opening rounds
   pub text : output ≡ reply_texts 0 made.items rounds ++ history_text opening rounds
+
+-- what a run begins with: what the image in the file to load is of, or nothing where no file is to be loaded
+abbrev pub IsOpeningOf : Option (List ℕ) → Files → Opening → Type 0
+IsOpeningOf None files opening = opening ≡ nothing
+IsOpeningOf (Some name) files opening = (bytes : List ℕ) × (files name ≡ Some bytes) × IsImage opening bytes
+
+-- The run begins so, and has this output.
+pub record IsRunOutput (plan : Plan) (files : Files) (rounds : List RoundRows) (output : List ℕ) : Type 0 where
+  pub opening : Opening
+  pub opens : IsOpeningOf plan.load files opening
+  pub is : IsOutputFrom opening plan.rounds files rounds output
+
+-- The bytes are the image of what the last of the rounds leaves.
+pub record IsImageLeft (plan : Plan) (files : Files) (rounds : List RoundRows) (bytes : List ℕ) : Type 0 where
+  pub opening : Opening
+  pub opens : IsOpeningOf plan.load files opening
+  pub image : IsImage (closing opening rounds) bytes
 
 -- the refusal of the round with this number, where a desk refuses to begin
 abbrev pub refusal_for : ℕ → Option StartFault → Option Refusal
@@ -98,7 +118,47 @@ pub record RefusesAfter (opening : Opening) (plan : List RoundPlan) (rounds : Li
   pub lawful : IsLawfulRun opening rounds
   pub why : round_refusal (length rounds) next.limits (closing opening rounds) ≡ Some refusal
 
--- these rounds make the calls of the planned files, too
-pub record RefusesRound (opening : Opening) (plan : List RoundPlan) (files : Files) (rounds : List RoundRows) (refusal : Refusal) : Type 0 where
-  pub after : RefusesAfter opening plan rounds refusal
+-- The run begins so, these rounds make the calls of the planned files, too, and the next can't begin.
+pub record RefusesRound (plan : Plan) (files : Files) (rounds : List RoundRows) (refusal : Refusal) : Type 0 where
+  pub opening : Opening
+  pub opens : IsOpeningOf plan.load files opening
+  pub after : RefusesAfter opening plan.rounds rounds refusal
   pub made : MakesPlan opening after.before files rounds
+
+-- the file to load has no image, and this is its first fault
+pub record RefusesImage (plan : Plan) (files : Files) (refusal : Refusal) : Type 0 where
+  pub name : List ℕ
+  pub named : plan.load ≡ Some name
+  pub bytes : List ℕ
+  pub held : files name ≡ Some bytes
+  pub fault : ImageFault
+  pub has : image_fault bytes ≡ Some fault
+  pub is : refusal ≡ Image fault
+
+abbrev pub RefusesRun : Plan → Files → List RoundRows → Refusal → Type 0
+RefusesRun plan files rounds refusal = RefusesImage plan files refusal ⊎ RefusesRound plan files rounds refusal
+
+-- ---- whatever the shelf tells
+
+-- what a run may begin with: what some image is of, or nothing where no file is to be loaded
+abbrev pub MayBegin : Option (List ℕ) → Opening → Type 0
+MayBegin None opening = opening ≡ nothing
+MayBegin (Some name) opening = (bytes : List ℕ) × IsImage opening bytes
+
+-- some bytes that were loaded have the fault, and no round was served
+pub record RefusesBytes (plan : Plan) (rounds : List RoundRows) (refusal : Refusal) : Type 0 where
+  pub loads : IsSome plan.load
+  pub bytes : List ℕ
+  pub fault : ImageFault
+  pub has : image_fault bytes ≡ Some fault
+  pub is : refusal ≡ Image fault
+  pub none : rounds ≡ []
+
+-- the rounds are a lawful run from something that the run may begin with, and the next can't begin
+pub record RefusesNext (plan : Plan) (rounds : List RoundRows) (refusal : Refusal) : Type 0 where
+  pub opening : Opening
+  pub opens : MayBegin plan.load opening
+  pub after : RefusesAfter opening plan.rounds rounds refusal
+
+abbrev pub RefusesServedRun : Plan → List RoundRows → Refusal → Type 0
+RefusesServedRun plan rounds refusal = RefusesBytes plan rounds refusal ⊎ RefusesNext plan rounds refusal

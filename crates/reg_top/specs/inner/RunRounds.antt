@@ -1,65 +1,23 @@
--- The rounds of a run, from the files of their sessions on.
-use Rattle.std.specs.Prelude.{◌≡◌, ℕ, ◌+◌, ◌^◌, ◌≤◌, List, [], ◌∷◌, ◌++◌, length, map, take, slice_get, All, Option, Some, None, IfSome, codes}
-use Rattle.std.specs.List.{AllZip}
+-- The rounds of a run, from the items of their sessions' files on.
+use Rattle.std.specs.Prelude.{◌≡◌, ℕ, ◌+◌, List, [], ◌∷◌, ◌++◌, length, map, take, slice_get, All, Some, None, codes}
 use Rattle.std.specs.Fmt.{decimal}
 use Rattle.reg_model.specs.declared.reply.Row.{Row}
 use Rattle.reg_model.specs.declared.round.Round.{Round}
-use Rattle.reg_model.specs.Calls.{IsRequest}
 use Rattle.reg_model.specs.Limits.{Limits}
 use Rattle.reg_model.specs.Opening.{Opening}
 use Rattle.reg_model.specs.Registry.{start_refusal}
-use Rattle.reg_model.specs.Runs.{RoundRows, nothing}
+use Rattle.reg_model.specs.Runs.{RoundRows}
 use Rattle.reg_requests.specs.declared.items.Item.{Item}
 use Rattle.reg_requests.specs.Lines.{line, spaced}
-use Rattle.reg_requests.specs.Requests.{AreItems, calls_of}
-use Rattle.reg_session.specs.declared.shelf.FetchFault.{FetchFault}
-use Rattle.reg_session.specs.declared.shelf.FetchFault.TheVariants.{Failed}
-use Rattle.reg_session.specs.Faults.{HasCause}
-use Rattle.reg_session.specs.Files.{Files}
+use Rattle.reg_requests.specs.Requests.{calls_of}
 use Rattle.reg_session.specs.Sessions.{ServesRound}
 use Rattle.reg_history.specs.History.{history_text}
-use Rattle.reg_top.specs.declared.commands.run.Unread.{Unread}
-use Rattle.reg_top.specs.declared.commands.run.Unread.TheVariants as unreads
 use Rattle.reg_top.specs.declared.ending.Declined.{Declined}
 use Rattle.reg_top.specs.declared.ending.Declined.TheVariants as declines
 use Rattle.reg_top.specs.declared.refusal.Refusal.{Refusal}
-use Rattle.reg_top.specs.Fetches.{RoundPlan, fetch_of}
-use Rattle.reg_top.specs.Outcomes.{IsHeld}
-use Rattle.reg_top.specs.inner.Endings.{UnreadWhy}
+use Rattle.reg_top.specs.Fetches.{RoundPlan}
 use Rattle.reg_top.specs.commands.Run.{item_lines, round_refusal}
-
--- ---- files
-
--- calls that a session may make: few, with values of their types
-pub record MayBeServed (list : List Item) : Type 0 where
-  pub few : length (calls_of list) ≤ 2 ^ 24
-  pub known : All IsRequest (calls_of list)
-
--- the items of the file with this name, which is in limit
-pub record IsRead (files : Option Files) (name : List ℕ) (list : List Item) : Type 0 where
-  pub bytes : List ℕ
-  pub within : length bytes ≤ 2 ^ 24
-  pub items : AreItems bytes list
-  pub served : MayBeServed list
-  pub held : IfSome files (λ (map : Files). map name ≡ Some bytes)
-
--- the items of the files of a round
-abbrev pub ReadsRound : Option Files → RoundPlan → List (List Item) → Type 0
-ReadsRound files plan lists = AllZip (IsRead files) plan.names lists
-
--- The first of these files that gave nothing, and why; those before it are there and in limit.
-pub record IsFirstUnread (files : Option Files) (before after : ℕ) (names : List (List ℕ)) (name : List ℕ) (fault : FetchFault) : Type 0 where
-  pub front : List (List ℕ)
-  pub rest : List (List ℕ)
-  pub split : names ≡ front ++ name ∷ rest
-  pub held : IfSome files (λ (told : Files). All (IsHeld told) (map (fetch_of (2 ^ 24)) front))
-  pub why : IfSome files (λ (told : Files). UnreadWhy fault told (fetch_of (2 ^ 24) name))
-  pub cause : HasCause before after (fault ≡ Failed)
-
--- why these files weren't read: the first that gave nothing, or memory is wanting
-abbrev pub AreUnread : Option Files → ℕ → ℕ → List (List ℕ) → Unread → Type 0
-AreUnread files before after names (unreads.File name fault) = IsFirstUnread files before after names name.now fault
-AreUnread files before after names unreads.NoMemory = after ≡ before
+use Rattle.reg_top.specs.inner.RunFiles.{MayBeServed}
 
 -- ---- rounds
 
@@ -88,14 +46,14 @@ abbrev pub round_accounts : List Round → List (List (List Row))
 round_accounts rounds = map (λ (round : Round). round.accounts) rounds
 
 -- The rounds before the one at a place were served and their seals kept, and that one is refused.
-pub record StopsAt (plan : List RoundPlan) (lists : List (List (List Item))) (seals : List (List (List Row))) (refusal : Refusal) : Type 0 where
+pub record StopsAt (opening : Opening) (plan : List RoundPlan) (lists : List (List (List Item))) (seals : List (List (List Row))) (refusal : Refusal) : Type 0 where
   pub at : ℕ
   pub next : RoundPlan
   pub there : slice_get plan at ≡ Some next
   pub rounds : List Round
-  pub served : ServesFrom nothing (take at plan) (take at lists) rounds
+  pub served : ServesFrom opening (take at plan) (take at lists) rounds
   pub kept : seals ≡ round_accounts rounds
-  pub why : round_refusal at next.limits (left_by nothing rounds) ≡ Some refusal
+  pub why : round_refusal at next.limits (left_by opening rounds) ≡ Some refusal
 
 -- why a round isn't served: it is refused, or memory is wanting
 abbrev pub IsDeclinedNext : ℕ → Limits → Opening → Declined → Type 0
@@ -103,9 +61,9 @@ IsDeclinedNext number limits opening (declines.Refused refusal) = round_refusal 
 IsDeclinedNext number limits opening declines.NoMemory = Unit {0}
 
 -- why the rounds of a plan aren't served
-abbrev pub IsDeclinedAt : List RoundPlan → List (List (List Item)) → List (List (List Row)) → Declined → Type 0
-IsDeclinedAt plan lists seals (declines.Refused refusal) = StopsAt plan lists seals refusal
-IsDeclinedAt plan lists seals declines.NoMemory = Unit {0}
+abbrev pub IsDeclinedAt : Opening → List RoundPlan → List (List (List Item)) → List (List (List Row)) → Declined → Type 0
+IsDeclinedAt opening plan lists seals (declines.Refused refusal) = StopsAt opening plan lists seals refusal
+IsDeclinedAt opening plan lists seals declines.NoMemory = Unit {0}
 
 -- ---- the output
 
@@ -135,8 +93,8 @@ all_served opening (p ∷ plan) (list ∷ lists) (round ∷ rounds) serves =
 all_served opening plan lists rounds serves = []
 
 -- The text of a run whose rounds were served, and whose seals were kept.
-pub record IsServedText (plan : List RoundPlan) (lists : List (List (List Item))) (seals : List (List (List Row))) (text : List ℕ) : Type 0 where
+pub record IsServedText (opening : Opening) (plan : List RoundPlan) (lists : List (List (List Item))) (seals : List (List (List Row))) (text : List ℕ) : Type 0 where
   pub rounds : List Round
-  pub served : ServesFrom nothing plan lists rounds
+  pub served : ServesFrom opening plan lists rounds
   pub kept : seals ≡ round_accounts rounds
-  pub is : text ≡ round_texts 0 lists rounds ++ history_text nothing (all_served nothing plan lists rounds served)
+  pub is : text ≡ round_texts 0 lists rounds ++ history_text opening (all_served opening plan lists rounds served)

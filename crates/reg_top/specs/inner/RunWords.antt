@@ -1,12 +1,13 @@
 -- The words behind `run`, as far as they are read.
-use Rattle.std.specs.Prelude.{◌≡◌, ℕ, ◌+◌, ◌<◌, ◌≤◌, List, [], ◌∷◌, ◌++◌, All, map, drop, length, None}
-use Rattle.std.specs.Option.{option_to_list}
+use Rattle.std.specs.Prelude.{◌≡◌, ℕ, ◌+◌, ◌<◌, ◌≤◌, List, [], ◌∷◌, ◌++◌, All, map, drop, length, slice_get, None}
+use Rattle.std.specs.Option.{option_map, option_to_list}
 use Rattle.reg_model.specs.declared.round.TheConstants.{ROUNDS_MOST}
 use Rattle.reg_model.specs.declared.sizes.TheConstants.{CALLERS_MOST, ENTRIES_USUAL, LOG_USUAL, BITS_USUAL}
-use Rattle.reg_top.specs.Fetches.{RoundPlan}
+use Rattle.reg_top.specs.Fetches.{Plan}
 use Rattle.reg_top.specs.Words.{Argument, MarkedRound, Says, AreSaid, planned, first_or}
-use Rattle.reg_top.specs.Words.Argument.{Set, Mark, Name}
+use Rattle.reg_top.specs.Words.Argument.{Set, SetFile, Mark, Name}
 use Rattle.reg_top.specs.declared.run_words.RunOption.TheVariants.{Entries, Log, Bits}
+use Rattle.reg_top.specs.declared.run_words.FileOption.TheVariants.{Load, Save}
 use Rattle.reg_top.specs.declared.run_words.RoundWords.{RoundWords}
 use Rattle.reg_top.specs.declared.run_words.Reading.{Reading}
 use Rattle.reg_top.specs.declared.run_words.Said.{Said}
@@ -15,6 +16,7 @@ use Rattle.reg_top.specs.declared.run_words.Said.TheVariants as said
 -- the argument that is kept so
 abbrev pub argument_of : Said → Argument
 argument_of (said.Set option number) = Set option number
+argument_of (said.SetFile option name) = SetFile option name.now
 argument_of (said.Mark sizes) = Mark sizes
 argument_of (said.Name name) = Name name.now
 
@@ -34,30 +36,28 @@ NoneStandsAt words at = (argument : Argument) (first rest : List (List ℕ)) →
 
 -- ---- what is read
 
--- the numbers that are set for each option, the rounds that are closed, and the last, which may get more files
+-- the numbers and names that are set for each option, the rounds that are closed, and the last, which may get more files
 pub record ReadSoFar : Type 0 where
   pub entries : List ℕ
   pub log : List ℕ
   pub bits : List ℕ
+  pub load : List (List ℕ)
+  pub save : List (List ℕ)
   pub closed : List MarkedRound
   pub last : MarkedRound
 
 abbrev pub nothing_read : ReadSoFar
-nothing_read = record { entries = []; log = []; bits = []; closed = []; last = record { sizes = None; names = [] } }
+nothing_read = record { entries = []; log = []; bits = []; load = []; save = []; closed = []; last = record { sizes = None; names = [] } }
 
 -- what is read with one argument more
 abbrev pub read_more : ReadSoFar → Argument → ReadSoFar
-read_more read (Set Entries number) = record { entries = read.entries ++ number ∷ []; log = read.log; bits = read.bits; closed = read.closed; last = read.last }
-read_more read (Set Log number) = record { entries = read.entries; log = read.log ++ number ∷ []; bits = read.bits; closed = read.closed; last = read.last }
-read_more read (Set Bits number) = record { entries = read.entries; log = read.log; bits = read.bits ++ number ∷ []; closed = read.closed; last = read.last }
-read_more read (Mark sizes) = record { entries = read.entries; log = read.log; bits = read.bits; closed = read.closed ++ read.last ∷ []; last = record { sizes = sizes; names = [] } }
-read_more read (Name name) = record {
-  entries = read.entries;
-  log = read.log;
-  bits = read.bits;
-  closed = read.closed;
-  last = record { sizes = read.last.sizes; names = read.last.names ++ name ∷ [] };
-}
+read_more read (Set Entries number) = record read { entries = read.entries ++ number ∷ [] }
+read_more read (Set Log number) = record read { log = read.log ++ number ∷ [] }
+read_more read (Set Bits number) = record read { bits = read.bits ++ number ∷ [] }
+read_more read (SetFile Load name) = record read { load = read.load ++ name ∷ [] }
+read_more read (SetFile Save name) = record read { save = read.save ++ name ∷ [] }
+read_more read (Mark sizes) = record read { closed = read.closed ++ read.last ∷ []; last = record { sizes = sizes; names = [] } }
+read_more read (Name name) = record read { last = record { sizes = read.last.sizes; names = read.last.names ++ name ∷ [] } }
 
 abbrev pub read_all : ReadSoFar → List Argument → ReadSoFar
 read_all read [] = read
@@ -71,6 +71,8 @@ pub record HasPlaces (read : ReadSoFar) : Type 0 where
   pub entries : length read.entries ≤ 1
   pub log : length read.log ≤ 1
   pub bits : length read.bits ≤ 1
+  pub load : length read.load ≤ 1
+  pub save : length read.save ≤ 1
   pub rounds : length read.closed < ROUNDS_MOST
   pub names : All HasFewNames read.closed
   pub last : length read.last.names ≤ CALLERS_MOST
@@ -79,8 +81,12 @@ abbrev pub rounds_of : ReadSoFar → List MarkedRound
 rounds_of read = read.closed ++ read.last ∷ []
 
 -- the plan that is asked for
-abbrev pub plan_of : ReadSoFar → List RoundPlan
-plan_of read = planned (record { entries = first_or ENTRIES_USUAL read.entries; log = first_or LOG_USUAL read.log }) (first_or BITS_USUAL read.bits) (rounds_of read)
+abbrev pub plan_of : ReadSoFar → Plan
+plan_of read = record {
+  load = slice_get read.load 0;
+  save = slice_get read.save 0;
+  rounds = planned (record { entries = first_or ENTRIES_USUAL read.entries; log = first_or LOG_USUAL read.log }) (first_or BITS_USUAL read.bits) (rounds_of read);
+}
 
 -- ---- how it is kept
 
@@ -92,6 +98,8 @@ read_of reading = record {
   entries = option_to_list reading.entries;
   log = option_to_list reading.log;
   bits = option_to_list reading.bits;
+  load = option_to_list (option_map (λ name. name.now) reading.load);
+  save = option_to_list (option_map (λ name. name.now) reading.save);
   closed = map round_of reading.closed.items;
   last = round_of reading.last;
 }

@@ -1,5 +1,5 @@
 ghost use Rattle.std.specs.Prelude.{◌≡◌, ℕ, [], Some, codes, slice_get, IfOk, IfErr};
-ghost use Rattle.reg_session.specs.Outside.{outside};
+ghost use Rattle.reg_session.specs.Outside.{outside, shelf_view, sink_view};
 ghost use Rattle.reg_top.specs.SavedHistories.{HasLawfulHistory};
 ghost use Rattle.reg_top.specs.Fetches.Command.{Check};
 ghost use Rattle.reg_top.specs.commands.Check.{lawful_text};
@@ -32,8 +32,8 @@ pub(crate) fn check_command<F: Shelf, K: Sink>(
 ) -> u8
     requires { slice_get words.now 0 ≡ Some (codes "check") }
     ensures { IsOutcome words.now
-        (outside (F.files shelf.old) (F.fetch_faults shelf.old) (K.taken sink.old) (K.faults sink.old))
-        (outside (F.files shelf.new) (F.fetch_faults shelf.new) (K.taken sink.new) (K.faults sink.new)) [] result }
+        (outside (shelf_view (F.files shelf.old) (F.fetch_faults shelf.old) (F.put_faults shelf.old)) (sink_view (K.taken sink.old) (K.faults sink.old)))
+        (outside (shelf_view (F.files shelf.new) (F.fetch_faults shelf.new) (F.put_faults shelf.new)) (sink_view (K.taken sink.new) (K.faults sink.new))) [] result }
 {
     match one_value(words, "check") {
         None => no_form(sink),
@@ -42,10 +42,9 @@ pub(crate) fn check_command<F: Shelf, K: Sink>(
 }
 
 fn check_file<F: Shelf, K: Sink>(alloc: Global, name: &str, shelf: &mut F, sink: &mut K) -> Ending
-    ensures ends { Ends (Check name.now)
-        (outside (F.files shelf.old) (F.fetch_faults shelf.old) (K.taken sink.old) (K.faults sink.old))
-        (outside (F.files shelf.new) (F.fetch_faults shelf.new) (K.taken sink.new) (K.faults sink.new)) [] result }
-    ensures same { F.files shelf.new ≡ F.files shelf.old }
+    ensures { Ends (Check name.now)
+        (outside (shelf_view (F.files shelf.old) (F.fetch_faults shelf.old) (F.put_faults shelf.old)) (sink_view (K.taken sink.old) (K.faults sink.old)))
+        (outside (shelf_view (F.files shelf.new) (F.fetch_faults shelf.new) (F.put_faults shelf.new)) (sink_view (K.taken sink.new) (K.faults sink.new))) [] result }
 {
     match fetch_file(alloc, name, shelf, HISTORY_MOST) {
         Ok(file) => match lawful_line(alloc, file.as_slice()) {

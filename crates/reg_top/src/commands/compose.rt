@@ -2,7 +2,7 @@ ghost use Rattle.std.specs.Prelude.{◌≡◌, ◌<◌, ℕ, [], Option, Some, c
 ghost use Rattle.std.specs.List.{AllZip};
 ghost use Rattle.iscc_code.specs.Composites.{CodeParts};
 ghost use Rattle.reg_session.specs.Files.{Files};
-ghost use Rattle.reg_session.specs.Outside.{outside};
+ghost use Rattle.reg_session.specs.Outside.{ShelfView, outside, sink_view};
 ghost use Rattle.reg_top.specs.Fetches.Command.{Compose};
 ghost use Rattle.reg_top.specs.commands.Compose.{IsTextOf, HasWordFault, IsCompositeOf};
 ghost use Rattle.reg_top.specs.Outcomes.{IsOutcome};
@@ -22,8 +22,8 @@ use std::alloc::Global;
 /// `compose TEXT ..`: writes the composite of the units for which the texts stand.
 pub(crate) fn compose_command<K: Sink>(alloc: Global, words: &Args, sink: &mut K) -> u8
     requires { slice_get words.now 0 ≡ Some (codes "compose") }
-    ensures { (files : Option Files) (count : ℕ) → IsOutcome words.now
-        (outside files count (K.taken sink.old) (K.faults sink.old)) (outside files count (K.taken sink.new) (K.faults sink.new)) [] result }
+    ensures { (shelf : ShelfView) → IsOutcome words.now
+        (outside shelf (sink_view (K.taken sink.old) (K.faults sink.old))) (outside shelf (sink_view (K.taken sink.new) (K.faults sink.new))) [] result }
 {
     if !has_texts(words) {
         return no_form(sink);
@@ -33,8 +33,8 @@ pub(crate) fn compose_command<K: Sink>(alloc: Global, words: &Args, sink: &mut K
 
 fn compose_texts<K: Sink>(alloc: Global, words: &Args, sink: &mut K) -> Ending
     requires { 0 < length words.now }
-    ensures { (files : Option Files) (count : ℕ) → Ends (Compose (drop 1 words.now))
-        (outside files count (K.taken sink.old) (K.faults sink.old)) (outside files count (K.taken sink.new) (K.faults sink.new)) [] result }
+    ensures { (shelf : ShelfView) → Ends (Compose (drop 1 words.now))
+        (outside shelf (sink_view (K.taken sink.old) (K.faults sink.old))) (outside shelf (sink_view (K.taken sink.new) (K.faults sink.new))) [] result }
 {
     match composite(alloc, words) {
         Ok(code) => {

@@ -3,7 +3,7 @@ ghost use Rattle.serde_json.specs.Data.{Data};
 ghost use Rattle.serde_json.specs.Written.{compact_text};
 ghost use Rattle.iscc_text.specs.Explanations.{Explains};
 ghost use Rattle.reg_session.specs.Files.{Files};
-ghost use Rattle.reg_session.specs.Outside.{outside};
+ghost use Rattle.reg_session.specs.Outside.{ShelfView, outside, sink_view};
 ghost use Rattle.reg_requests.specs.Lines.{line};
 ghost use Rattle.reg_top.specs.Fetches.Command.{Explain};
 ghost use Rattle.reg_top.specs.commands.Explain.{IsExplanation};
@@ -25,8 +25,8 @@ use std::alloc::Global;
 /// `explain TEXT`: writes the explanation of the ISCC for which a text stands.
 pub(crate) fn explain_command<K: Sink>(alloc: Global, words: &Args, sink: &mut K) -> u8
     requires { slice_get words.now 0 ≡ Some (codes "explain") }
-    ensures { (files : Option Files) (count : ℕ) → IsOutcome words.now
-        (outside files count (K.taken sink.old) (K.faults sink.old)) (outside files count (K.taken sink.new) (K.faults sink.new)) [] result }
+    ensures { (shelf : ShelfView) → IsOutcome words.now
+        (outside shelf (sink_view (K.taken sink.old) (K.faults sink.old))) (outside shelf (sink_view (K.taken sink.new) (K.faults sink.new))) [] result }
 {
     match one_value(words, "explain") {
         None => no_form(sink),
@@ -35,8 +35,8 @@ pub(crate) fn explain_command<K: Sink>(alloc: Global, words: &Args, sink: &mut K
 }
 
 fn explain_text<K: Sink>(alloc: Global, text: &str, sink: &mut K) -> Ending
-    ensures { (files : Option Files) (count : ℕ) → Ends (Explain text.now)
-        (outside files count (K.taken sink.old) (K.faults sink.old)) (outside files count (K.taken sink.new) (K.faults sink.new)) [] result }
+    ensures { (shelf : ShelfView) → Ends (Explain text.now)
+        (outside shelf (sink_view (K.taken sink.old) (K.faults sink.old))) (outside shelf (sink_view (K.taken sink.new) (K.faults sink.new))) [] result }
 {
     match explanation(alloc, text) {
         Ok(tree) => written(write_line(sink, tree.as_bytes())),

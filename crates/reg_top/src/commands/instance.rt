@@ -1,5 +1,5 @@
 ghost use Rattle.std.specs.Prelude.{◌≡◌, [], Some, codes, slice_get};
-ghost use Rattle.reg_session.specs.Outside.{outside};
+ghost use Rattle.reg_session.specs.Outside.{outside, shelf_view, sink_view};
 ghost use Rattle.reg_top.specs.Fetches.Command.{Instance};
 ghost use Rattle.reg_top.specs.Outcomes.{IsOutcome};
 ghost use Rattle.reg_top.specs.inner.Endings.{Ends};
@@ -27,8 +27,8 @@ pub(crate) fn instance_command<F: Shelf, K: Sink>(
 ) -> u8
     requires { slice_get words.now 0 ≡ Some (codes "instance") }
     ensures { IsOutcome words.now
-        (outside (F.files shelf.old) (F.fetch_faults shelf.old) (K.taken sink.old) (K.faults sink.old))
-        (outside (F.files shelf.new) (F.fetch_faults shelf.new) (K.taken sink.new) (K.faults sink.new)) [] result }
+        (outside (shelf_view (F.files shelf.old) (F.fetch_faults shelf.old) (F.put_faults shelf.old)) (sink_view (K.taken sink.old) (K.faults sink.old)))
+        (outside (shelf_view (F.files shelf.new) (F.fetch_faults shelf.new) (F.put_faults shelf.new)) (sink_view (K.taken sink.new) (K.faults sink.new))) [] result }
 {
     match one_value(words, "instance") {
         None => no_form(sink),
@@ -42,10 +42,9 @@ fn instance_file<F: Shelf, K: Sink>(
     shelf: &mut F,
     sink: &mut K,
 ) -> Ending
-    ensures ends { Ends (Instance name.now)
-        (outside (F.files shelf.old) (F.fetch_faults shelf.old) (K.taken sink.old) (K.faults sink.old))
-        (outside (F.files shelf.new) (F.fetch_faults shelf.new) (K.taken sink.new) (K.faults sink.new)) [] result }
-    ensures same { F.files shelf.new ≡ F.files shelf.old }
+    ensures { Ends (Instance name.now)
+        (outside (shelf_view (F.files shelf.old) (F.fetch_faults shelf.old) (F.put_faults shelf.old)) (sink_view (K.taken sink.old) (K.faults sink.old)))
+        (outside (shelf_view (F.files shelf.new) (F.fetch_faults shelf.new) (F.put_faults shelf.new)) (sink_view (K.taken sink.new) (K.faults sink.new))) [] result }
 {
     match fetch_file(alloc, name, shelf, HASHED_MOST) {
         Ok(file) => {

@@ -28,3 +28,7 @@ returns-in-TooSmall g c = rw c.in-TooSmall.is c.tell_small.ensures
 pub returns-in-IdsSpent : goal.returns-in-IdsSpent
 unfolding digits
 returns-in-IdsSpent g c = rw c.in-IdsSpent.is c.tell_spent.ensures
+
+pub returns-in-Image : goal.returns-in-Image
+unfolding digits
+returns-in-Image g c = rw c.in-Image.is c.tell_image.ensures

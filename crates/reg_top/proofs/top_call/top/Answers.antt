@@ -2,20 +2,24 @@ use Rattle.std.proofs.Common.{[], inl, inr}
 use Rattle.reg_requests.specs.Words.{line_words}
 use Rattle.reg_requests.proofs.TakenIsccs.{takes_iscc}
 use Rattle.reg_top.specs.Fetches.Command.{Run}
-use Rattle.reg_session.specs.Outside.{Outside, outside}
+use Rattle.reg_session.specs.Outside.{Outside, outside, shelf_view, sink_view}
 use Rattle.reg_top.specs.Outcomes.{Writes}
 use Rattle.reg_top.proofs.LoneRuns.{lone_taken}
 use Rattle.reg_top.proofs.top_call.top.Goals as goal
 
 pub returns-in-Some-clause-run : goal.returns-in-Some-clause-run
-returns-in-Some-clause-run g c = λ plan form done. let ends = c.in-Some.ensures.outcome.ends (Run plan) form in ([], ends.done done, c.requires)
+returns-in-Some-clause-run g c = λ plan form done.
+    let ends = c.in-Some.ensures.outcome.ends (Run plan) form in
+    let all = ends.done done in
+    ([], all.0, all.1, c.requires)
 
 pub returns-in-None-clause-run : goal.returns-in-None-clause-run
 returns-in-None-clause-run g c = λ plan form done.
     let same = c.in-None.ensures.untouched in
     let outcome = c.run_command.ensures in
     let ends = outcome.1.ends (Run plan) form in
-    (outcome.0, rw (← same.0, ← same.1) (ends.done done), outcome.2 (inl done))
+    let all = ends.done done in
+    (outcome.0, rw (← same.0, ← same.1) all.0, rw (← same.0) all.1, outcome.2 (inl done))
 
 pub returns-in-Some-clause-refused : goal.returns-in-Some-clause-refused
 returns-in-Some-clause-refused g c = λ plan form high. let ends = c.in-Some.ensures.outcome.ends (Run plan) form in ([], ends.refused high, c.requires)
@@ -29,20 +33,22 @@ returns-in-None-clause-refused g c = λ plan form high.
 
 pub returns-in-Some-clause-lone : goal.returns-in-Some-clause-lone
 returns-in-Some-clause-lone g c = λ plan form done.
-    let before : Outside = outside (g.F.Shelf.files c.args.shelf.now) (g.F.Shelf.fetch_faults c.args.shelf.now) (g.K.Sink.taken c.args.sink.now) (g.K.Sink.faults c.args.sink.now) in
-    let after : Outside = outside (g.F.Shelf.files c.side.new.shelf) (g.F.Shelf.fetch_faults c.side.new.shelf) (g.K.Sink.taken c.side.new.sink) (g.K.Sink.faults c.side.new.sink) in
+    let before : Outside = outside (shelf_view (g.F.Shelf.files c.args.shelf.now) (g.F.Shelf.fetch_faults c.args.shelf.now) (g.F.Shelf.put_faults c.args.shelf.now)) (sink_view (g.K.Sink.taken c.args.sink.now) (g.K.Sink.faults c.args.sink.now)) in
+    let after : Outside = outside (shelf_view (g.F.Shelf.files c.side.new.shelf) (g.F.Shelf.fetch_faults c.side.new.shelf) (g.F.Shelf.put_faults c.side.new.shelf)) (sink_view (g.K.Sink.taken c.side.new.sink) (g.K.Sink.faults c.side.new.sink)) in
     let ends = c.in-Some.ensures.outcome.ends (Run plan) form in
-    lone_taken c.args.words.now plan before after [] form (ends.done done)
+    let all = ends.done done in
+    lone_taken c.args.words.now plan before after [] form all.0
 
 pub returns-in-None-clause-lone : goal.returns-in-None-clause-lone
 returns-in-None-clause-lone g c = λ plan form done.
-    let before : Outside = outside (g.F.Shelf.files c.args.shelf.now) (g.F.Shelf.fetch_faults c.args.shelf.now) (g.K.Sink.taken c.args.sink.now) (g.K.Sink.faults c.args.sink.now) in
+    let before : Outside = outside (shelf_view (g.F.Shelf.files c.args.shelf.now) (g.F.Shelf.fetch_faults c.args.shelf.now) (g.F.Shelf.put_faults c.args.shelf.now)) (sink_view (g.K.Sink.taken c.args.sink.now) (g.K.Sink.faults c.args.sink.now)) in
     let after : Outside =
-    outside (g.F.Shelf.files c.run_command.new.shelf) (g.F.Shelf.fetch_faults c.run_command.new.shelf) (g.K.Sink.taken c.run_command.new.sink) (g.K.Sink.faults c.run_command.new.sink) in
+    outside (shelf_view (g.F.Shelf.files c.run_command.new.shelf) (g.F.Shelf.fetch_faults c.run_command.new.shelf) (g.F.Shelf.put_faults c.run_command.new.shelf)) (sink_view (g.K.Sink.taken c.run_command.new.sink) (g.K.Sink.faults c.run_command.new.sink)) in
     let same = c.in-None.ensures.untouched in
     let outcome = c.run_command.ensures in
     let ends = outcome.1.ends (Run plan) form in
-    let writes : Writes (Run plan) before after outcome.0 = rw (← same.0, ← same.1) (ends.done done) in
+    let all = ends.done done in
+    let writes : Writes (Run plan) before after outcome.0 = rw (← same.0, ← same.1) all.0 in
     lone_taken c.args.words.now plan before after outcome.0 form writes
 
 pub returns-in-Some-clause-text : goal.returns-in-Some-clause-text

@@ -10,4 +10,4 @@ returns-in-None g c =
 
 pub returns-in-Some : goal.returns-in-Some
 returns-in-Some g c =
-    rw c.number.ensures (command_outcome c.args.words.now (Check c.in-Some.name.now) _ _ [] c.check_file.result c.in-Some.ensures.found c.check_file.ensures.same c.check_file.ensures.ends)
+    rw c.number.ensures (command_outcome c.args.words.now (Check c.in-Some.name.now) _ _ [] c.check_file.result c.in-Some.ensures.found c.check_file.ensures)

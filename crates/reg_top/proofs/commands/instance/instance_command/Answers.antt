@@ -10,4 +10,4 @@ returns-in-None g c =
 
 pub returns-in-Some : goal.returns-in-Some
 returns-in-Some g c =
-    rw c.number.ensures (command_outcome c.args.words.now (Instance c.in-Some.name.now) _ _ [] c.instance_file.result c.in-Some.ensures.found c.instance_file.ensures.same c.instance_file.ensures.ends)
+    rw c.number.ensures (command_outcome c.args.words.now (Instance c.in-Some.name.now) _ _ [] c.instance_file.result c.in-Some.ensures.found c.instance_file.ensures)

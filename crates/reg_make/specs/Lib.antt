@@ -1,0 +1,5 @@
+pub mod Generator
+pub mod Workloads
+pub mod Counting
+pub mod Laws
+pub mod inner
