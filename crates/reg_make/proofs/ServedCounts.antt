@@ -31,7 +31,7 @@ abbrev pub rows_of : (limits : Limits) (opening : Opening) (lists : List (List C
 rows_of limits opening lists round serves = record { limits = limits; rows = serves.merge.rows }
 
 -- the rows of each session are its calls
-made_lists : (limits : Limits) (opening : Opening) (lists : List (List Call)) (round : Round) (serves : ServesRound limits opening lists round)
+pub made_lists : (limits : Limits) (opening : Opening) (lists : List (List Call)) (round : Round) (serves : ServesRound limits opening lists round)
     → MakesLists lists (rows_of limits opening lists round serves)
 made_lists limits opening lists round serves session list at =
     account_made (slice_get round.accounts session) refl (sym (slice_get-map calls_made round.accounts session) ∙ ap (λ l. slice_get l session) serves.makes ∙ at)
@@ -61,7 +61,7 @@ module _ (work : Work) (first second : Round) (is : IsWork work) (one : ServesRo
   rounds = rows_of (work_limits work work.sessions) nothing (first_calls work) first one ∷ rows_of (work_limits work 1) first.carried (second_calls work) second two ∷ []
 
   -- the second round begins with what the first leaves
-  behind : first.carried ≡ next_opening nothing one.merge.rows
+  pub behind : first.carried ≡ next_opening nothing one.merge.rows
   behind = one.carried ∙ ap (opening_after nothing) (sym one.merge.makes)
 
   rows_counted : counted rounds ≡ work_counts work

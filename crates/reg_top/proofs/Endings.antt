@@ -14,7 +14,7 @@ use Rattle.reg_top.specs.declared.ending.Ending.TheVariants as endings
 use Rattle.reg_top.specs.declared.refusal.Refusal.{Refusal}
 use Rattle.reg_top.specs.declared.refusal.Refusal.TheVariants as refusals
 use Rattle.reg_top.specs.Fetches.{Command, Fetch, fetches, saved_name}
-use Rattle.reg_top.specs.Fetches.Command.{Run, Explain, Compose, Instance, Check}
+use Rattle.reg_top.specs.Fetches.Command.{Run, Make, Explain, Compose, Instance, Check}
 use Rattle.reg_top.specs.commands.Compose.{RefusesTexts}
 use Rattle.reg_top.specs.commands.Check.{RefusesHistory}
 use Rattle.reg_top.specs.Dispatch.{Refuses}
@@ -267,6 +267,7 @@ history_number name files refusal refuses = elim refuses [ inl none ↦ ap refus
 one_number : (command : Command) (files : Files) (served : List RoundRows) (a b : Refusal) → Refuses command files served a → Refuses command files served b
     → refusal_number a ≡ refusal_number b
 one_number (Run plan) files served a b one other = one_run_number plan files served a b one other
+one_number (Make work) files served a b one other = absurd one
 one_number (Explain text) files served a b one other = ap refusal_number one.is ∙ sym (ap refusal_number other.is)
 one_number (Compose texts) files served a b one other = texts_number texts a one ∙ sym (texts_number texts b other)
 one_number (Instance name) files served a b one other = absurd one

@@ -24,3 +24,4 @@ pub mod LoneRuns
 pub mod RunEnds
 pub mod WorkedCheck
 pub mod WorkedWords
+pub mod MadeRounds

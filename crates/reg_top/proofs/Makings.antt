@@ -22,8 +22,10 @@ use Rattle.reg_top.specs.declared.ending.Declined.{Declined}
 use Rattle.reg_top.specs.declared.ending.Declined.TheVariants as declined
 use Rattle.reg_top.specs.SavedHistories.{IsSavedHistory, HasNoHistory, HasLawfulHistory, HasFaultyHistory}
 use Rattle.reg_top.specs.Fetches.{Plan}
-use Rattle.reg_top.specs.Fetches.Command.{Run, Explain, Compose, Instance, Check}
+use Rattle.reg_top.specs.Fetches.Command.{Run, Make, Explain, Compose, Instance, Check}
 use Rattle.reg_top.specs.commands.Run.{IsRunOutput}
+use Rattle.reg_make.specs.Workloads.{Work}
+use Rattle.reg_top.specs.commands.Make.{IsMakeOutput}
 use Rattle.reg_top.specs.commands.Explain.{IsExplanation}
 use Rattle.reg_top.specs.commands.Compose.{IsComposition, RefusesTexts}
 use Rattle.reg_top.specs.commands.Check.{RefusesHistory, lawful_text}
@@ -61,6 +63,9 @@ compose_declines texts before declined.NoMemory is = tt
 
 pub run_makes : (plan : Plan) (files : Files) (served : List RoundRows) (output : List ℕ) → IsRunOutput plan files served output → Makes (Run plan) files served output
 run_makes plan files served output is = record { is = is; unrefused = output_unrefused plan files served output is }
+
+pub make_makes : (work : Work) (files : Files) (served : List RoundRows) (output : List ℕ) → IsMakeOutput work served output → Makes (Make work) files served output
+make_makes work files served output is = record { is = is; unrefused = λ refusal refuses. refuses }
 
 pub instance_makes : (name bytes : List ℕ) (files : Files) → files name ≡ Some bytes → Makes (Instance name) files [] (line (unit_text (instance_of bytes)))
 instance_makes name bytes files held = record { is = record { bytes = bytes; held = held; printed = refl }; unrefused = λ refusal refuses. refuses }

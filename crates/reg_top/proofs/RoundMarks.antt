@@ -57,3 +57,12 @@ two_words [] first second len a b = absurd (omega (arith, len))
 two_words (x ∷ []) first second len a b = absurd (omega (arith, len))
 two_words (x ∷ y ∷ []) first second len a b = ap₂ (λ v w. v ∷ w ∷ []) (same_Some x first a) (same_Some y second b)
 two_words (x ∷ y ∷ z ∷ words) first second len a b = absurd (let long : suc (suc (suc (length words))) ≡ 2 = len in omega arith)
+
+-- and four
+pub four_words : (words : List (List ℕ)) (first second third last : List ℕ) → length words ≡ 4 → slice_get words 0 ≡ Some first → slice_get words 1 ≡ Some second → slice_get words 2 ≡ Some third
+    → slice_get words 3 ≡ Some last → words ≡ first ∷ second ∷ third ∷ last ∷ []
+four_words [] first second third last len a b c d = absurd (omega (arith, len))
+four_words (x ∷ []) first second third last len a b c d = absurd (omega (arith, len))
+four_words (x ∷ y ∷ words) first second third last len a b c d =
+    ap₂ (λ (v : List ℕ) (more : List (List ℕ)). v ∷ more) (same_Some x first a)
+    (ap₂ (λ (w : List ℕ) (more : List (List ℕ)). w ∷ more) (same_Some y second b) (two_words words third last (omega (arith, len)) c d))

@@ -19,7 +19,7 @@ use Rattle.reg_top.specs.inner.RunEndings.{PutsImage}
 
 -- ---- what a run begins with
 
-nothing_opens : IsOpening nothing
+pub nothing_opens : IsOpening nothing
 nothing_opens = record { base = lit≤ tt; rising = λ i j d lt low. absurd (omega arith); below = λ k d low. absurd (omega arith) }
 
 -- what is known of what a run begins with

@@ -60,7 +60,7 @@ calls_more list i item within is =
 -- ---- lists
 
 -- a list that has a function's value at each place is its map over a range
-tabulated : {X : Type 0} (l : List X) (f : ℕ → X) (a : ℕ) → ((n : ℕ) → n < length l → slice_get l n ≡ Some (f (a + n))) → l ≡ map f (range_with_len a (length l))
+pub tabulated : {X : Type 0} (l : List X) (f : ℕ → X) (a : ℕ) → ((n : ℕ) → n < length l → slice_get l n ≡ Some (f (a + n))) → l ≡ map f (range_with_len a (length l))
 tabulated [] f a h = refl
 tabulated (x ∷ l) f a h =
     let here : x ≡ f a = same_Some x (f (a + 0)) (h 0 (omega arith)) ∙ ap f (let same : a + 0 ≡ a = omega arith in same) in
@@ -157,7 +157,7 @@ serves_more opening (q ∷ plan) (l ∷ lists) [] p list round serves next = abs
 serves_more opening (q ∷ plan) (l ∷ lists) (r ∷ rounds) p list round serves next = (serves.0, serves_more r.carried plan lists rounds p list round serves.1 next)
 
 -- a round that can begin has room for what is carried, and for its ids
-may_begin : (limits : Limits) (opening : Opening) → start_refusal limits opening ≡ None → (length opening.list ≤ limits.entries) × (opening.base + limits.log ≤ 2 ^ 34)
+pub may_begin : (limits : Limits) (opening : Opening) → start_refusal limits opening ≡ None → (length opening.list ≤ limits.entries) × (opening.base + limits.log ≤ 2 ^ 34)
 may_begin limits opening none =
     by_cases (nat_lt limits.entries (length opening.list)) refl (nat_lt (2 ^ 34) (opening.base + limits.log)) refl
   where

@@ -3,6 +3,7 @@ use Rattle.std.specs.Prelude.{ℕ, ◌^◌, Option, None, List, [], ◌∷◌, �
 use Rattle.std.specs.List.{flat_map}
 use Rattle.std.specs.Option.{option_to_list}
 use Rattle.reg_model.specs.Limits.{Limits}
+use Rattle.reg_make.specs.Workloads.{Work}
 
 -- a round's sizes, and the names of its sessions' files
 pub record RoundPlan : Type 0 where
@@ -15,10 +16,11 @@ pub record Plan : Type 0 where
   pub save : Option (List ℕ)
   pub rounds : List RoundPlan
 
--- what a command line asks: to serve the files of some rounds, to explain a text, to compose the units of some texts, to give
+-- what a command line asks: to serve the files of some rounds, to serve a workload, to explain a text, to compose the units of some texts, to give
 -- the Instance-Code of a file, or to check the history that is saved in a file
 pub data Command : Type 0 where
   Run : Plan → Command
+  Make : Work → Command
   Explain : List ℕ → Command
   Compose : List (List ℕ) → Command
   Instance : List ℕ → Command
@@ -43,6 +45,7 @@ request_fetches plan = map (fetch_of (2 ^ 24)) (flat_map (λ (round : RoundPlan)
 -- the files that a command fetches, in order: a run fetches the image first
 abbrev pub fetches : Command → List Fetch
 fetches (Run plan) = image_fetches plan ++ request_fetches plan
+fetches (Make work) = []
 fetches (Explain text) = []
 fetches (Compose texts) = []
 fetches (Instance name) = fetch_of (2 ^ 28) name ∷ []
@@ -51,6 +54,7 @@ fetches (Check name) = fetch_of (2 ^ 28) name ∷ []
 -- the name under which a command leaves an image
 abbrev pub saved_name : Command → Option (List ℕ)
 saved_name (Run plan) = plan.save
+saved_name (Make work) = None
 saved_name (Explain text) = None
 saved_name (Compose texts) = None
 saved_name (Instance name) = None

@@ -6,8 +6,9 @@ use Rattle.reg_requests.specs.Numbers.{IsNumber}
 use Rattle.reg_model.specs.declared.sizes.TheConstants.{ENTRIES_USUAL, LOG_USUAL, BITS_USUAL}
 use Rattle.reg_model.specs.declared.round.TheConstants.{ROUNDS_MOST}
 use Rattle.reg_model.specs.Limits.{IsInRange}
+use Rattle.reg_make.specs.Workloads.{Work, IsWork}
 use Rattle.reg_top.specs.Fetches.{RoundPlan, Plan, Command}
-use Rattle.reg_top.specs.Fetches.Command.{Run, Explain, Compose, Instance, Check}
+use Rattle.reg_top.specs.Fetches.Command.{Run, Make, Explain, Compose, Instance, Check}
 use Rattle.reg_top.specs.declared.words.SideWord.{SideWord}
 use Rattle.reg_top.specs.declared.words.SideWord.TheVariants as side
 use Rattle.reg_top.specs.declared.run_words.RunOption.{RunOption}
@@ -164,6 +165,17 @@ pub record IsPlanOf (words : List (List ℕ)) (plan : Plan) : Type 0 where
 abbrev pub IsRunForm : List (List ℕ) → Plan → Type 0
 IsRunForm words plan = (behind : List (List ℕ)) × (words ≡ codes "run" ∷ behind) × IsPlanOf behind plan
 
+-- the words are `make` and three numbers: a seed, how many units each session declares, and how many sessions there are
+pub record IsMakeForm (words : List (List ℕ)) (work : Work) : Type 0 where
+  pub seed : List ℕ
+  pub each : List ℕ
+  pub sessions : List ℕ
+  pub words_are : words ≡ codes "make" ∷ seed ∷ each ∷ sessions ∷ []
+  pub seed_is : IsNumberOf seed work.seed
+  pub each_is : IsNumberOf each work.each
+  pub sessions_is : IsNumberOf sessions work.sessions
+  pub in_range : IsWork work
+
 -- the words are a command's first word and one value
 pub record HasOneValue (words : List (List ℕ)) (first value : List ℕ) : Type 0 where
   pub words_are : words ≡ first ∷ value ∷ []
@@ -178,6 +190,7 @@ pub record HasTexts (words texts : List (List ℕ)) : Type 0 where
 -- the words are of the form of a command
 abbrev pub IsForm : List (List ℕ) → Command → Type 0
 IsForm words (Run plan) = IsRunForm words plan
+IsForm words (Make work) = IsMakeForm words work
 IsForm words (Explain text) = HasOneValue words (codes "explain") text
 IsForm words (Compose texts) = HasTexts words texts
 IsForm words (Instance name) = HasOneValue words (codes "instance") name

@@ -4,4 +4,5 @@ pub(crate) mod check;
 pub(crate) mod compose;
 pub(crate) mod explain;
 pub(crate) mod instance;
+pub(crate) mod make;
 pub(crate) mod run;

@@ -24,6 +24,7 @@ mod run_rounds;
 mod run_words;
 mod saved_history;
 mod served;
+mod serving;
 mod side_commands;
 mod top_call;
 mod words;

@@ -9,6 +9,7 @@ mod lines;
 mod rounds;
 mod sessions;
 mod side;
+mod workloads;
 
 // Room for the output of a small run.
 const ROOM: usize = 4096;

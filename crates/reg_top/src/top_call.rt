@@ -4,16 +4,17 @@ ghost use Rattle.reg_requests.specs.declared.items.Line.{Line as ALine};
 ghost use Rattle.reg_requests.specs.Words.{line_words};
 ghost use Rattle.reg_requests.specs.Requests.{ReadsLine};
 ghost use Rattle.reg_requests.specs.TakenIsccs.{HasIsccText, TakesIscc};
+ghost use Rattle.reg_make.specs.Workloads.{Work};
 ghost use Rattle.reg_session.specs.Outside.{outside, shelf_view, sink_view};
 ghost use Rattle.reg_top.specs.Fetches.{Plan};
-ghost use Rattle.reg_top.specs.Fetches.Command.{Run};
+ghost use Rattle.reg_top.specs.Fetches.Command.{Run, Make};
 ghost use Rattle.reg_top.specs.Words.{IsForm, IsSideCommand};
 ghost use Rattle.reg_top.specs.commands.Run.{accounts_served};
 ghost use Rattle.reg_top.specs.Outcomes.{Writes, Saves, TakesLoneOutput, IsRefusalNumber, TellsRefusal, IsOutcome};
 
 use crate::args::Args;
-use crate::commands::run::run_command;
 use crate::served::Served;
+use crate::serving::serving;
 use crate::side_commands::side;
 use reg_session::{Gate, Seals, Shelf, Sink};
 use std::alloc::Global;
@@ -59,6 +60,12 @@ pub fn top<F: Shelf, K: Sink, G: Gate, R: Threads + Wait + Sync>(
         (outside (shelf_view (F.files shelf.new) (F.fetch_faults shelf.new) (F.put_faults shelf.new)) (sink_view (K.taken sink.new) (K.faults sink.new))) served result
         × (seals.new ≡ map accounts_served served) }
 
+    // The line of a workload is counted from the rows of its rounds, for each of which there is a seal.
+    ensures make { (work : Work) → IsForm words.now (Make work) → result ≡ 0 → (served : List RoundRows) × Writes (Make work)
+        (outside (shelf_view (F.files shelf.old) (F.fetch_faults shelf.old) (F.put_faults shelf.old)) (sink_view (K.taken sink.old) (K.faults sink.old)))
+        (outside (shelf_view (F.files shelf.new) (F.fetch_faults shelf.new) (F.put_faults shelf.new)) (sink_view (K.taken sink.new) (K.faults sink.new))) served
+        × (seals.new ≡ map accounts_served served) }
+
     // A command that serves nothing leaves no seal.
     ensures seals { IsSideCommand words.now → seals.new ≡ [] }
 
@@ -72,6 +79,6 @@ pub fn top<F: Shelf, K: Sink, G: Gate, R: Threads + Wait + Sync>(
 {
     match side(alloc, words, shelf, sink) {
         Some(status) => status,
-        None => run_command(rt, alloc, words, shelf, sink, gate, seals),
+        None => serving(rt, alloc, words, shelf, sink, gate, seals),
     }
 }

@@ -1,7 +1,10 @@
 ghost use Rattle.std.specs.Prelude.{◌≡◌, ◌<◌, ℕ, List, ◌↔◌, IsTrue, IfSome, IfNone, All, length, drop, slice_get};
-ghost use Rattle.reg_top.specs.Words.{IsValue, HasOneValue, side_text, IsSideCommand};
+ghost use Rattle.reg_top.specs.Words.{IsValue, IsMakeForm, HasOneValue, side_text, IsSideCommand};
+ghost use Rattle.reg_make.specs.Workloads.{Work};
 
 use crate::args::Args;
+use reg_make::Workload;
+use reg_requests::read_number;
 
 /// The first word of a command that serves nothing.
 #[derive(Clone, Copy, Debug, PartialEq, Eq)]
@@ -34,6 +37,20 @@ pub(crate) fn side_word(words: &Args) -> Option<SideWord>
         return Some(SideWord::Check);
     }
     None
+}
+
+/// The workload that the words of a `make` ask for, if they are of that form.
+pub(crate) fn work_asked(words: &Args) -> Option<Workload>
+    ensures found { IfSome result (IsMakeForm words.now) }
+    ensures none { IfNone result ((work : Work) → IsMakeForm words.now work → ⊥) }
+{
+    if words.len() != 4 || words.word(0) != "make" {
+        return None;
+    }
+    let seed = read_number(words.word(1).as_bytes())?;
+    let each = read_number(words.word(2).as_bytes())?;
+    let sessions = read_number(words.word(3).as_bytes())?;
+    Workload::new(seed, each, sessions)
 }
 
 /// The one value behind a command's first word, where the words are of that form.

@@ -2,11 +2,12 @@ ghost use Rattle.std.specs.Prelude.{◌≡◌, ◌≤◌, [], ◌++◌, List, If
 ghost use Rattle.std.specs.List.{AllZip};
 ghost use Rattle.std.specs.Option.{option_map};
 ghost use Rattle.reg_model.specs.Runs.{RoundRows};
+ghost use Rattle.reg_make.specs.Workloads.{Work};
 ghost use Rattle.reg_history.specs.History.{history_text};
 ghost use Rattle.reg_history.specs.Rounds.{AreRoundsOf, IsRunOf};
 ghost use Rattle.reg_session.specs.Outside.{outside, shelf_view, sink_view};
 ghost use Rattle.reg_top.specs.Fetches.Command.{Run};
-ghost use Rattle.reg_top.specs.Words.{IsSideCommand};
+ghost use Rattle.reg_top.specs.Words.{IsMakeForm, IsSideCommand};
 ghost use Rattle.reg_top.specs.commands.Run.{accounts_served};
 ghost use Rattle.reg_top.specs.Outcomes.{IsOutcome, IsServedStatus};
 ghost use Rattle.reg_top.specs.inner.Endings.{Ends, IsServedEnding};
@@ -54,6 +55,7 @@ pub(crate) fn run_command<F: Shelf, K: Sink, G: Gate, R: Threads + Wait + Sync>(
     seals: &mut Seals<Served>,
 ) -> u8
     requires other { IsSideCommand words.now → ⊥ }
+    requires made { (work : Work) → IsMakeForm words.now work → ⊥ }
     requires empty { seals.old ≡ [] }
     ensures { (served : List RoundRows) × IsOutcome words.now
         (outside (shelf_view (F.files shelf.old) (F.fetch_faults shelf.old) (F.put_faults shelf.old)) (sink_view (K.taken sink.old) (K.faults sink.old)))

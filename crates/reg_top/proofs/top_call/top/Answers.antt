@@ -1,7 +1,7 @@
 use Rattle.std.proofs.Common.{[], inl, inr}
 use Rattle.reg_requests.specs.Words.{line_words}
 use Rattle.reg_requests.proofs.TakenIsccs.{takes_iscc}
-use Rattle.reg_top.specs.Fetches.Command.{Run}
+use Rattle.reg_top.specs.Fetches.Command.{Run, Make}
 use Rattle.reg_session.specs.Outside.{Outside, outside, shelf_view, sink_view}
 use Rattle.reg_top.specs.Outcomes.{Writes}
 use Rattle.reg_top.proofs.LoneRuns.{lone_taken}
@@ -16,10 +16,21 @@ returns-in-Some-clause-run g c = λ plan form done.
 pub returns-in-None-clause-run : goal.returns-in-None-clause-run
 returns-in-None-clause-run g c = λ plan form done.
     let same = c.in-None.ensures.untouched in
-    let outcome = c.run_command.ensures in
+    let outcome = c.serving.ensures in
     let ends = outcome.1.ends (Run plan) form in
     let all = ends.done done in
     (outcome.0, rw (← same.0, ← same.1) all.0, rw (← same.0) all.1, outcome.2 (inl done))
+
+pub returns-in-Some-clause-make : goal.returns-in-Some-clause-make
+returns-in-Some-clause-make g c = λ work form done. let ends = c.in-Some.ensures.outcome.ends (Make work) form in ([], (ends.done done).0, c.requires)
+
+pub returns-in-None-clause-make : goal.returns-in-None-clause-make
+returns-in-None-clause-make g c = λ work form done.
+    let same = c.in-None.ensures.untouched in
+    let outcome = c.serving.ensures in
+    let ends = outcome.1.ends (Make work) form in
+    let all = ends.done done in
+    (outcome.0, rw (← same.1) all.0, outcome.2 (inl done))
 
 pub returns-in-Some-clause-refused : goal.returns-in-Some-clause-refused
 returns-in-Some-clause-refused g c = λ plan form high. let ends = c.in-Some.ensures.outcome.ends (Run plan) form in ([], ends.refused high, c.requires)
@@ -27,7 +38,7 @@ returns-in-Some-clause-refused g c = λ plan form high. let ends = c.in-Some.ens
 pub returns-in-None-clause-refused : goal.returns-in-None-clause-refused
 returns-in-None-clause-refused g c = λ plan form high.
     let same = c.in-None.ensures.untouched in
-    let outcome = c.run_command.ensures in
+    let outcome = c.serving.ensures in
     let ends = outcome.1.ends (Run plan) form in
     (outcome.0, rw (← same.0, ← same.1) (ends.refused high), outcome.2 (inr high))
 
@@ -43,9 +54,9 @@ pub returns-in-None-clause-lone : goal.returns-in-None-clause-lone
 returns-in-None-clause-lone g c = λ plan form done.
     let before : Outside = outside (shelf_view (g.F.Shelf.files c.args.shelf.now) (g.F.Shelf.fetch_faults c.args.shelf.now) (g.F.Shelf.put_faults c.args.shelf.now)) (sink_view (g.K.Sink.taken c.args.sink.now) (g.K.Sink.faults c.args.sink.now)) in
     let after : Outside =
-    outside (shelf_view (g.F.Shelf.files c.run_command.new.shelf) (g.F.Shelf.fetch_faults c.run_command.new.shelf) (g.F.Shelf.put_faults c.run_command.new.shelf)) (sink_view (g.K.Sink.taken c.run_command.new.sink) (g.K.Sink.faults c.run_command.new.sink)) in
+    outside (shelf_view (g.F.Shelf.files c.serving.new.shelf) (g.F.Shelf.fetch_faults c.serving.new.shelf) (g.F.Shelf.put_faults c.serving.new.shelf)) (sink_view (g.K.Sink.taken c.serving.new.sink) (g.K.Sink.faults c.serving.new.sink)) in
     let same = c.in-None.ensures.untouched in
-    let outcome = c.run_command.ensures in
+    let outcome = c.serving.ensures in
     let ends = outcome.1.ends (Run plan) form in
     let all = ends.done done in
     let writes : Writes (Run plan) before after outcome.0 = rw (← same.0, ← same.1) all.0 in
@@ -63,5 +74,5 @@ returns-in-Some-clause-outcome g c = ([], c.in-Some.ensures.outcome)
 pub returns-in-None-clause-outcome : goal.returns-in-None-clause-outcome
 returns-in-None-clause-outcome g c =
     let same = c.in-None.ensures.untouched in
-    let outcome = c.run_command.ensures in
+    let outcome = c.serving.ensures in
     (outcome.0, rw (← same.0, ← same.1) outcome.1)

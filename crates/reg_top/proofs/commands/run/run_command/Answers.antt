@@ -29,6 +29,6 @@ returns-in-None g c =
     let after : Outside = outside (shelf_view (g.F.Shelf.files c.args.shelf.now) (g.F.Shelf.fetch_faults c.args.shelf.now) (g.F.Shelf.put_faults c.args.shelf.now)) (sink_view (g.K.Sink.taken c.no_form.new.sink) (g.K.Sink.faults c.no_form.new.sink)) in (
       [],
       subst (IsOutcome words before after []) (sym c.no_form.ensures.status)
-          (words_outcome words before after [] (no_run words c.in-None.ensures.none c.requires.other) refl c.no_form.ensures.told),
+          (words_outcome words before after [] (no_run words c.in-None.ensures.none c.requires.made c.requires.other) refl c.no_form.ensures.told),
       λ served. absurd (elim served [ inl zero ↦ omega (arith, zero, c.no_form.ensures.status) | inr high ↦ omega (arith, high.0, c.no_form.ensures.status) ]),
     )
