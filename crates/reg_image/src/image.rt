@@ -22,7 +22,8 @@ pub fn write_image(alloc: Global, carried: &Carried) -> Result<Vec<u8>, NoMemory
     let mut bytes = Vec::with_capacity(alloc, 60 + 17 * list.len())?;
     append_front(&mut bytes, carried.base(), list.len() as u64)?;
     append_list(&mut bytes, list)?;
-    let sum = sum_of(bytes.as_slice());
+    let summed = bytes.as_slice();
+    let sum = sum_of(summed);
     bytes.extend_from_slice(&sum)?;
     Ok(bytes)
 }

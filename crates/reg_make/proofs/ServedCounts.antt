@@ -1,5 +1,5 @@
 -- What is counted in the accounts of two rounds that were served.
-use Rattle.std.proofs.Common.{◌≡◌, ℕ, ◌+◌, ◌*◌, ◌-◌, ◌^◌, ◌≤◌, min, cond, nat_le, get_or, List, [], ◌∷◌, map, length, Option, Some, None, refl, sym, ◌∙◌, ap, ap₂, subst, arith}
+use Rattle.std.proofs.Common.{◌≡◌, ℕ, ◌+◌, ◌*◌, ◌-◌, ◌^◌, ◌<◌, ◌≤◌, min, cond, nat_le, get_or, List, [], ◌∷◌, map, length, Option, Some, None, refl, sym, ◌∙◌, ap, ap₂, subst, arith}
 use Rattle.std.specs.Prelude.{sum_by, count_by, slice_get}
 use Rattle.std.specs.List.{range_with_len}
 use Rattle.std.specs.Option.{option_map}
@@ -18,7 +18,8 @@ use Rattle.reg_model.specs.Rows.{is_accepted, session_rows, log_of, all_rows, Is
 use Rattle.reg_model.specs.Runs.{RoundRows, nothing, next_opening}
 use Rattle.reg_model.proofs.SessionAccounts.{kept_account}
 use Rattle.reg_session.specs.Sessions.{calls_made, ServesRound}
-use Rattle.reg_make.specs.Counting.{row_count, accepted_count, hits_count, counts_of, FitCounts}
+use Rattle.reg_make.specs.Counting.{row_count, accepted_count, hits_count, counts_of, capped}
+use Rattle.reg_make.specs.declared.counts.Counts.{Counts}
 use Rattle.reg_make.specs.Generator.{centre, unit}
 use Rattle.reg_make.specs.Workloads.{Work, IsWork, unit_count, work_limits, first_calls, second_calls, MakesLists, hit_count, counted, pair_count, work_counts}
 use Rattle.reg_make.proofs.CallSums.{sum_agree, sum_ones}
@@ -90,6 +91,13 @@ pairs_few : (work : Work) → pair_count work ≤ 16 * unit_count work
 pairs_few work = sum_by-le (λ j. count_by (λ i. nat_le (distance (centre work.seed j).body (unit work.seed i).body) 1) (range_with_len 0 (unit_count work))) (unit_count work) (range_with_len 0 16)
     (λ k j low. omega (arith, count_by-le-length (λ i. nat_le (distance (centre work.seed (get_or (range_with_len 0 16) k j)).body (unit work.seed i).body) 1) (range_with_len 0 (unit_count work)), length-range_with_len 0 (unit_count work)))
 
+-- each count is one of 64 bits
+pub record FitCounts (counts : Counts) : Type 0 where
+  pub calls : counts.calls < 2 ^ 64
+  pub accepted : counts.accepted < 2 ^ 64
+  pub live : counts.live < 2 ^ 64
+  pub hits : counts.hits < 2 ^ 64
+
 pub counts_fit : (work : Work) → IsWork work → FitCounts (work_counts work)
 counts_fit work is = record {
   calls = omega (arith, is.units);
@@ -99,6 +107,14 @@ counts_fit work is = record {
 }
 
 -- ---- counts that stop at the greatest number
+
+pub capped_fit : (counts : Counts) → FitCounts counts → capped counts ≡ counts
+capped_fit counts fit =
+    let calls : min counts.calls (2 ^ 64 - 1) ≡ counts.calls = omega (arith, fit.calls) in
+    let accepted : min counts.accepted (2 ^ 64 - 1) ≡ counts.accepted = omega (arith, fit.accepted) in
+    let left : min counts.live (2 ^ 64 - 1) ≡ counts.live = omega (arith, fit.live) in
+    let hits : min counts.hits (2 ^ 64 - 1) ≡ counts.hits = omega (arith, fit.hits) in
+    λ i. record { calls = calls i; accepted = accepted i; live = left i; hits = hits i }
 
 -- one more is added
 pub capped_more : (count total added part next : ℕ) → count ≡ min total (2 ^ 64 - 1) → added ≡ min part (2 ^ 64 - 1) → next ≡ min (count + added) (2 ^ 64 - 1) → next ≡ min (total + part) (2 ^ 64 - 1)

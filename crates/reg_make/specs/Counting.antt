@@ -1,5 +1,5 @@
 -- What is counted in the rows of two rounds.
-use Rattle.std.specs.Prelude.{ℕ, ◌+◌, ◌<◌, ◌^◌, length, count_by, sum_by, List}
+use Rattle.std.specs.Prelude.{ℕ, ◌+◌, ◌-◌, ◌^◌, min, length, count_by, sum_by, List}
 use Rattle.reg_model.specs.declared.reply.Row.{Row}
 use Rattle.reg_model.specs.declared.round.Round.{Round}
 use Rattle.reg_model.specs.Rows.{is_accepted}
@@ -27,9 +27,11 @@ counts_of first second = record {
   hits = hits_count first + hits_count second;
 }
 
--- each count is one of 64 bits
-pub record FitCounts (counts : Counts) : Type 0 where
-  pub calls : counts.calls < 2 ^ 64
-  pub accepted : counts.accepted < 2 ^ 64
-  pub live : counts.live < 2 ^ 64
-  pub hits : counts.hits < 2 ^ 64
+-- the same, where a count of 2^64 or more stays at 2^64 - 1
+abbrev pub capped : Counts → Counts
+capped counts = record {
+  calls = min counts.calls (2 ^ 64 - 1);
+  accepted = min counts.accepted (2 ^ 64 - 1);
+  live = min counts.live (2 ^ 64 - 1);
+  hits = min counts.hits (2 ^ 64 - 1);
+}

@@ -3,7 +3,7 @@ ghost use Rattle.reg_model.specs.declared.reply.Row.{Row as ARow};
 ghost use Rattle.reg_model.specs.Rows.{is_accepted as is_accepted_row};
 ghost use Rattle.reg_model.specs.Runs.{nothing};
 ghost use Rattle.reg_session.specs.Sessions.{ServesRound};
-ghost use Rattle.reg_make.specs.Counting.{row_count, accepted_count, hits_count, counts_of, FitCounts};
+ghost use Rattle.reg_make.specs.Counting.{row_count, accepted_count, hits_count, counts_of, capped};
 ghost use Rattle.reg_make.specs.Workloads.{Work, IsWork, work_limits, first_calls, second_calls, hit_count, work_counts};
 
 use reg_model::{Call, Reply, Round, Row};
@@ -22,7 +22,7 @@ pub struct Counts {
 ///
 /// A count that would be 2^64 or more stays at 2^64 - 1.
 pub fn count_work(first: &Round, second: &Round) -> Counts
-    ensures rows { FitCounts (counts_of first.now second.now) → result ≡ counts_of first.now second.now }
+    ensures rows { result ≡ capped (counts_of first.now second.now) }
     ensures told { (work : Work) → IsWork work → ServesRound (work_limits work work.sessions) nothing (first_calls work) first.now
         → ServesRound (work_limits work 1) first.now.carried (second_calls work) second.now → result ≡ work_counts work }
 {
@@ -30,7 +30,7 @@ pub fn count_work(first: &Round, second: &Round) -> Counts
 }
 
 fn count_rounds(first: &Round, second: &Round) -> Counts
-    ensures { FitCounts (counts_of first.now second.now) → result ≡ counts_of first.now second.now }
+    ensures { result ≡ capped (counts_of first.now second.now) }
 {
     Counts {
         calls: count_calls(first).saturating_add(count_calls(second)),

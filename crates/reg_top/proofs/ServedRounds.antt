@@ -309,11 +309,6 @@ left_last opening rounds last is =
     let within = slice_get_within rounds (length rounds - 1) last is in
     last_left opening rounds (length rounds - 1) last (omega (arith, within)) is
 
-pub left_none : (opening : Opening) (rounds : List Round) → None ≡ slice_get rounds (length rounds - 1) → left_by opening rounds ≡ opening
-left_none opening [] none = refl
-left_none opening (r ∷ rounds) none =
-    absurd (none-some (get_or (r ∷ rounds) (length (r ∷ rounds) - 1) r) (none ∙ slice_get-get_or (r ∷ rounds) (length (r ∷ rounds) - 1) r (omega arith)))
-
 -- ---- the round at a place of the plan
 
 pub one_plan : (plan : List RoundPlan) (at : ℕ) → at < length plan → (p : RoundPlan) × (slice_get plan at ≡ Some p)

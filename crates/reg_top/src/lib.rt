@@ -2,12 +2,14 @@
 //! writes its output, or the line of a fault, to a sink.
 //!
 //! It stands on `reg_session`, which has shelf and sink and serves sessions in threads, on `reg_turn`, the desk over which
-//! they are served, on `reg_requests` and `reg_history`, which read and print texts, on `reg_model`, and on the crates of
-//! ISCCs. `iscc_registry` calls `top` with the real shelf and sink, tests with those in memory.
-//! The way of a request: `words` and `run_words` (what is asked), `fetch` (a file's bytes), a file of `commands` (what is made of it; `run`
-//! serves its sessions over the desk of `served`), `write` (bytes to the sink), `fault_line` (the line of a fault), `ending`
-//! (the status). `specs/Fetches.antt` says what each command fetches, a file of `specs/commands/` what it writes and refuses,
-//! and `specs/Outcomes.antt` how every call ends, and why.
+//! they are served, on `reg_make` (the workload of `make`), on `reg_requests`, `reg_history` and `reg_image`, which read and write
+//! texts and images, on `reg_model`, and on the crates of ISCCs. `iscc_registry` calls `top` with the real shelf and sink, tests
+//! with those in memory.
+//! The way of a request: `side_commands` (what serves nothing) or `serving` (what serves), `words` and `run_words` (what is asked),
+//! `fetch` (a file's bytes), a file of `commands` (what is made of it; rounds are served over the desk of `served`), `run_images` (what
+//! is loaded and saved), `write` (bytes to the sink), `fault_line` (the line of a fault), `ending` (the status).
+//! `specs/Fetches.antt` says what each command fetches, a file of `specs/commands/` what it writes and refuses, and
+//! `specs/Outcomes.antt` how every call ends, and why.
 #![tactic(auto)]
 
 mod args;

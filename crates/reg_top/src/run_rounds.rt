@@ -81,11 +81,18 @@ fn serve_next<G: Gate, R: Threads + Wait + Sync>(
     ensures why { IfErr result (IsDeclinedNext (length rounds.now) sizes.now (left_by opening.now rounds.now)) }
     ensures same { IfErr result (λ why. seals.new ≡ seals.old) }
 {
-    let carried = match rounds.last() {
-        Some(before) => &before.carried,
-        None => opening,
-    };
+    let carried = left_of(opening, rounds);
     serve_lists(rt, alloc, rounds.len(), sizes, carried, lists, gate, seals)
+}
+
+/// What these rounds leave: what the last one carries on, or what they began with where there is none.
+pub(crate) fn left_of<'a>(opening: &'a Carried, rounds: &'a [Round]) -> &'a Carried
+    ensures { result.now ≡ left_by opening.now rounds.now }
+{
+    match rounds.last() {
+        Some(last) => &last.carried,
+        None => opening,
+    }
 }
 
 // Serves the round with this number, which begins with what is carried, and keeps its seal.

@@ -5,7 +5,7 @@ use reg_model::Desk;
 use reg_session::Seals;
 use reg_turn::TurnDesk;
 
-/// The desk over which `run` serves. Its seals are what `top` leaves of the rounds.
+/// The desk over which `run` and `make` serve. Its seals are what `top` leaves of the rounds.
 pub type Served = TurnDesk;
 
 /// The seals of no round, with which a program begins. Takes no memory.

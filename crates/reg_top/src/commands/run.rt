@@ -23,7 +23,7 @@ use crate::fault_line::{declined, no_form, unread, unsaved};
 use crate::replies::print_rounds;
 use crate::run_files::{Given, Unread, read_given};
 use crate::run_images::{image_left, opening_of};
-use crate::run_rounds::serve_rounds;
+use crate::run_rounds::{left_of, serve_rounds};
 use crate::run_words::{RunPlan, run_plan};
 use crate::served::Served;
 use crate::write::write_all;
@@ -138,11 +138,7 @@ fn print_run(
     let mut output = Vec::new(alloc);
     print_rounds(lists, rounds, &mut output)?;
     append_history(alloc, opening, rounds, &mut output)?;
-    let left = match rounds.last() {
-        Some(last) => &last.carried,
-        None => opening,
-    };
-    let image = image_left(alloc, plan, left)?;
+    let image = image_left(alloc, plan, left_of(opening, rounds))?;
     Ok(Made { output, image })
 }
 

@@ -18,7 +18,7 @@ fn run_over<R: Threads + Wait + Sync + AllocGlobal>(
     Ok((status, taken_text(alloc, &sink)?))
 }
 
-// The image of the base 3 with so many META units of body 0, which have the ids 0, 1 ..
+// The image of this base with so many META units of body 0, which have the ids 0, 1 ..
 fn image_of(alloc: Global, base: u64, count: u64) -> Result<Vec<u8>, Fail> {
     let mut bytes = Vec::new(alloc);
     bytes.extend_from_slice(b"ISCCREGI\x00\x00\x00\x01")?;
