@@ -1,0 +1,2 @@
+-- What only proofs and private contracts use: no promise needs these.
+pub mod Walks

@@ -1,0 +1,4 @@
+pub mod Memory
+pub mod LogWords
+pub mod StampWords
+pub mod SweepWords
