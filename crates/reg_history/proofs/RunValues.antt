@@ -1,5 +1,5 @@
 -- The rows of a lawful round hold values of the program's types, where its calls do and what is carried into it does.
-use Rattle.std.proofs.Common.{ℕ, ◌+◌, ◌^◌, ◌<◌, ◌≤◌, Bool, true, false, cond, List, [], ◌∷◌, ◌++◌, map, length, filter, Option, Some, None, sym, ap, subst, arith, lit≤, length-append, append-nil, append_assoc}
+use Rattle.std.proofs.Common.{ℕ, ◌+◌, ◌^◌, ◌<◌, ◌≤◌, Bool, true, false, cond, List, [], ◌∷◌, ◌++◌, map, length, filter, Option, Some, None, sym, ap, subst, arith, length-append, append-nil, append_assoc}
 use Rattle.std.specs.Prelude.{All, IfSome, find, not, ◌==◌, nat_le, if◌then◌else◌}
 use Rattle.std.specs.List.{AllByRecursion, zip}
 use Rattle.std.specs.Option.{option_to_list}
@@ -28,6 +28,7 @@ use Rattle.reg_model.specs.Live.{declared_from, declared, is_withdrawn, live, li
 use Rattle.reg_model.specs.Replies.{is_near, hit_of, AreHits, shown, Replies}
 use Rattle.reg_model.specs.Rows.{update_of, log_of, MayFollow, EachAfter}
 use Rattle.reg_model.specs.Runs.{RoundRows, IsLawfulRound, next_opening}
+use Rattle.reg_model.proofs.LiveSteps.{live_few}
 use Rattle.reg_model.proofs.LawfulRounds.{log_fits}
 use Rattle.reg_model.proofs.RowSteps.{log_of-push}
 use Rattle.reg_model.specs.Calls.{IsRequest}
@@ -46,23 +47,12 @@ declared_values id [] fits units = tt
 declared_values id (Decl unit ∷ log) fits units = (record { id = omega (arith, fits); unit = units.0 }, declared_values (id + 1) log (omega (arith, fits)) units.1)
 declared_values id (Wd other ∷ log) fits units = declared_values (id + 1) log (omega (arith, fits)) units.1
 
--- a log declares no more than its updates
-declared_few : (id : ℕ) (log : List Update) → length (declared_from id log) ≤ length log
-declared_few id [] = lit≤ tt
-declared_few id (Decl unit ∷ log) = omega (arith, declared_few (id + 1) log)
-declared_few id (Wd other ∷ log) = omega (arith, declared_few (id + 1) log)
-
 -- the live declarations are among the carried ones and those of the log
 live_values : (opening : Opening) (log : List Update) → opening.base + length log < 2 ^ 64 → All IsDeclaredValue opening.list → All IsUpdateValue log → All IsDeclaredValue (live opening log)
 live_values opening log fits carried units =
     All-filter (λ d. not (is_withdrawn log d.id)) IsDeclaredValue (declared opening log)
     (All-append IsDeclaredValue opening.list (declared_from opening.base log) carried
     (All-from_recursion IsDeclaredValue (declared_from opening.base log) (declared_values opening.base log fits (recursion_from_All IsUpdateValue log units))))
-
--- and no more than those
-pub live_few : (opening : Opening) (log : List Update) → length (live opening log) ≤ length opening.list + length log
-live_few opening log =
-    omega (arith, length-filter (λ d. not (is_withdrawn log d.id)) (declared opening log), count_by-le-length (λ d. not (is_withdrawn log d.id)) (declared opening log), length-append opening.list (declared_from opening.base log), declared_few opening.base log)
 
 -- ---- hits
 

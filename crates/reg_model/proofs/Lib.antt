@@ -1,5 +1,6 @@
 pub mod Rising
 pub mod LiveSteps
+pub mod Marked
 pub mod PlainSteps
 pub mod WorkedRows
 pub mod WorkedRounds
@@ -19,3 +20,4 @@ pub mod LoneRounds
 pub mod LawfulRounds
 pub mod AccountSteps
 pub mod NewPasses
+pub mod GivenPasses

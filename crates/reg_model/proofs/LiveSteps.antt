@@ -1,5 +1,5 @@
 -- What a further update does to the live declarations.
-use Rattle.std.proofs.Common.{◌≡◌, ◌⊎◌, inl, inr, ℕ, ◌+◌, ◌<◌, ◌≤◌, ◌^◌, Bool, true, false, not, ◌||◌, ◌&&◌, ◌==◌, cond, List, [], ◌∷◌, ◌++◌, length, filter, refl, sym, ◌∙◌, ap, subst, append_assoc, append-nil, arith}
+use Rattle.std.proofs.Common.{◌≡◌, ◌⊎◌, inl, inr, ℕ, ◌+◌, ◌<◌, ◌≤◌, ◌^◌, Bool, true, false, not, ◌||◌, ◌&&◌, ◌==◌, cond, List, [], ◌∷◌, ◌++◌, length, filter, refl, sym, ◌∙◌, ap, subst, append_assoc, append-nil, length-append, lit≤, arith}
 use Rattle.std.specs.List.{remove}
 use Rattle.std.proofs.lemmas.Bool.Decides.{nat_tests}
 use Rattle.std.proofs.lemmas.List.Edits.{length-remove}
@@ -7,7 +7,7 @@ use Rattle.std.proofs.lemmas.Bool.{true≢false}
 use Rattle.std.proofs.lemmas.List.{length_push}
 use Rattle.std.proofs.lemmas.List.Elements.{filter-append, filter_agree}
 use Rattle.std.proofs.lemmas.List.Folds.{list_any-append}
-use Rattle.std.proofs.lemmas.List.Sums.{sum_by_push}
+use Rattle.std.proofs.lemmas.List.Sums.{sum_by_push, length-filter, count_by-le-length}
 use Rattle.iscc_header.specs.declared.unit.Unit64.{Unit64}
 use Rattle.reg_model.specs.declared.update.Update.{Update}
 use Rattle.reg_model.specs.declared.update.Update.TheVariants.{Decl, Wd}
@@ -65,6 +65,17 @@ live-declare opening log unit below =
     ∙ ap (filter keeps) (ap (λ ds. opening.list ++ ds) (declared_from-push opening.base log unit) ∙ sym (append_assoc opening.list (declared_from opening.base log) (new ∷ [])))
     ∙ filter-append keeps (declared opening log) (new ∷ [])
     ∙ ap (λ b. live opening log ++ cond b (new ∷ []) []) fresh
+
+-- a log declares no more than its updates
+declared_few : (id : ℕ) (log : List Update) → length (declared_from id log) ≤ length log
+declared_few id [] = lit≤ tt
+declared_few id (Decl unit ∷ log) = omega (arith, declared_few (id + 1) log)
+declared_few id (Wd other ∷ log) = omega (arith, declared_few (id + 1) log)
+
+-- so no more are live than were carried and than there are updates
+pub live_few : (opening : Opening) (log : List Update) → length (live opening log) ≤ length opening.list + length log
+live_few opening log =
+    omega (arith, length-filter (λ d. not (is_withdrawn log d.id)) (declared opening log), count_by-le-length (λ d. not (is_withdrawn log d.id)) (declared opening log), length-append opening.list (declared_from opening.base log), declared_few opening.base log)
 
 -- ---- a withdrawal
 

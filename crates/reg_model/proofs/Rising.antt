@@ -27,7 +27,7 @@ pub within-lower : (low higher high : ℕ) (ds : List Declared) → low ≤ high
 within-lower low higher high [] le h = omega (arith, le, h)
 within-lower low higher high (d ∷ ds) le h = (omega (arith, le, h.0), h.1)
 
-within-ends : (low high : ℕ) (ds : List Declared) → Within low high ds → low ≤ high
+pub within-ends : (low high : ℕ) (ds : List Declared) → Within low high ds → low ≤ high
 within-ends low high [] h = h
 within-ends low high (d ∷ ds) h = omega (arith, h.0, within-ends (d.id + 1) high ds h.1)
 
@@ -52,7 +52,7 @@ within-declared_from id (Wd other ∷ log) =
     within-lower id (id + 1) (id + length (Wd other ∷ log)) (declared_from (id + 1) log) (omega arith)
     (subst (λ n. Within (id + 1) n (declared_from (id + 1) log)) high (within-declared_from (id + 1) log))
 
-within-from_rising : (low high : ℕ) (ds : List Declared) → low ≤ high → All (λ (d : Declared). low ≤ d.id) ds → IsRising ds → All (λ (d : Declared). d.id < high) ds → Within low high ds
+pub within-from_rising : (low high : ℕ) (ds : List Declared) → low ≤ high → All (λ (d : Declared). low ≤ d.id) ds → IsRising ds → All (λ (d : Declared). d.id < high) ds → Within low high ds
 within-from_rising low high [] le above rising below = le
 within-from_rising low high (d ∷ ds) le above rising below = (
   above 0 d (omega arith),

@@ -11,6 +11,7 @@ mod call;
 mod carried;
 mod desk;
 mod laws;
+mod leaving;
 mod lists;
 mod merging;
 mod plain;
@@ -30,6 +31,7 @@ pub use laws::{
     empty_accounts_share_the_empty_log, hits_are_told_by_their_list,
     lawful_rows_stand_in_their_log,
 };
+pub use leaving::Leaving;
 pub use lists::{Accounts, Hits, Rows, Updates};
 pub use merging::{Order, Place, merge};
 pub use plain::Plain;
@@ -39,7 +41,7 @@ pub use sizes::{
     BITS_LEAST, BITS_MOST, BITS_USUAL, CALLERS_MOST, ENTRIES_MOST, ENTRIES_USUAL, LOG_MOST,
     LOG_USUAL, Sizes,
 };
-pub use start::StartFault;
+pub use start::{StartFault, start_fault};
 pub use update::{Declared, Update};
 
 /// The greatest radius of a query, in bits. With four substrings a radius of 15 leaves one of them within 3 bits.

@@ -10,7 +10,7 @@ use crate::carried::Carried;
 use crate::lists::{Hits, Updates};
 use crate::reply::{Answer, FullCause, Hit, Reply};
 use crate::sizes::Sizes;
-use crate::start::StartFault;
+use crate::start::{StartFault, start_fault};
 use crate::update::{Declared, Update};
 use iscc_header::{Items, NoMemory, Unit64, distance};
 use std::alloc::{AllocError, Global};
@@ -66,20 +66,11 @@ impl Plain {
             (λ _. start_refusal sizes.now carried.now ≡ None)
             (λ fault. (start_refusal sizes.now carried.now ≡ Some fault) ⊎ ((fault ≡ StartFault.NoMemory) × (start_refusal sizes.now carried.now ≡ None))) }
     {
+        if let Some(fault) = start_fault(sizes, carried) {
+            return Err(fault);
+        }
         let list = carried.list();
         let base = carried.base();
-        if list.len() as u64 > sizes.entries() as u64 {
-            return Err(StartFault::TooSmall {
-                live: list.len() as u64,
-                entries: sizes.entries(),
-            });
-        }
-        if base + sizes.log() as u64 > 1 << 34 {
-            return Err(StartFault::IdsSpent {
-                base,
-                log: sizes.log(),
-            });
-        }
         let log = Vec::with_capacity(alloc, sizes.log() as usize)?;
         let live = with_room(alloc, list, sizes.entries() as usize)?;
         let carried = Vec::from_slice(alloc, list)?;
@@ -215,7 +206,7 @@ impl Plain {
 }
 
 // Where the declaration with this id stands in a list by id.
-fn place_of(list: &[Declared], id: u64) -> Option<usize>
+pub(crate) fn place_of(list: &[Declared], id: u64) -> Option<usize>
     requires { IsRising list.now }
     ensures found { IfSome result (λ place. IsSomeAnd (slice_get list.now place) (λ declared. declared.id ≡ id)) }
     ensures none { IfNone result (find (λ declared. declared.id == id) list.now ≡ None) }
@@ -224,7 +215,7 @@ fn place_of(list: &[Declared], id: u64) -> Option<usize>
 }
 
 // Pushes where there is room, so that no memory is taken.
-fn push_within<T: Drop>(items: &mut Vec<T>, item: T)
+pub(crate) fn push_within<T: Drop>(items: &mut Vec<T>, item: T)
     requires { vec_len items.old < vec_capacity items.old }
     ensures items { items.new.items ≡ items.old.items ++ item ∷ [] }
     ensures capacity { vec_capacity items.old ≤ vec_capacity items.new }

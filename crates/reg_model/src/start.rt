@@ -1,6 +1,11 @@
 ghost use Rattle.std.specs.Prelude.{◌≡◌};
 ghost use Rattle.reg_model.specs.declared.start.StartFault.TheVariants.{NoMemory as start_no_memory};
+ghost use Rattle.reg_model.specs.Limits.{IsInRange};
+ghost use Rattle.reg_model.specs.Opening.{IsOpening};
+ghost use Rattle.reg_model.specs.Registry.{start_refusal};
 
+use crate::carried::Carried;
+use crate::sizes::Sizes;
 use iscc_header::NoMemory;
 use std::alloc::{AllocError, AllocFailed};
 
@@ -20,4 +25,27 @@ impl From<AllocError> for StartFault {
     fn from(_: AllocError) -> StartFault {
         StartFault::NoMemory
     }
+}
+
+/// Why a round of these sizes can't begin with what is carried, if it can't though there is memory.
+pub fn start_fault(sizes: &Sizes, carried: &Carried) -> Option<StartFault>
+    ensures fault { result ≡ start_refusal sizes.now carried.now }
+    ensures sizes { IsInRange sizes.now }
+    ensures carried { IsOpening carried.now }
+{
+    let live = carried.list().len() as u64;
+    let base = carried.base();
+    if live > sizes.entries() as u64 {
+        return Some(StartFault::TooSmall {
+            live,
+            entries: sizes.entries(),
+        });
+    }
+    if base + sizes.log() as u64 > 1 << 34 {
+        return Some(StartFault::IdsSpent {
+            base,
+            log: sizes.log(),
+        });
+    }
+    None
 }

@@ -1,4 +1,4 @@
-ghost use Rattle.std.specs.Prelude.{◌≡◌, IfOk};
+ghost use Rattle.std.specs.Prelude.{◌≡◌, ◌≤◌, ◌+◌, IfOk, length};
 ghost use Rattle.reg_model.specs.declared.reply.Row.{Row as ARow};
 ghost use Rattle.reg_model.specs.Merge.{AreAccounts};
 
@@ -218,6 +218,69 @@ fn a_list_by_rising_id_is_carried(rt: HostRuntime) -> Result<(), Fail> {
     let carried = Carried::from_list(1 << 34, Items::new(rt.alloc()));
     assert_eq!(rt; carried.base(), 1 << 34);
     assert_eq!(rt; carried.list().len(), 0);
+    Ok(())
+}
+
+// Nine ids were given, and two of them are live.
+fn two_carried(alloc: Global) -> Result<Carried, Fail>
+    ensures base { IfOk result (λ carried. carried.base ≡ 9) }
+    ensures two { IfOk result (λ carried. length carried.list ≡ 2) }
+{
+    let mut carried = Carried::new(alloc, 9);
+    carried.push(Declared {
+        id: 2,
+        unit: meta(2)?,
+    })?;
+    carried.push(Declared {
+        id: 7,
+        unit: meta(7)?,
+    })?;
+    Ok(carried)
+}
+
+// What a round of eight entries leaves.
+#[tactic(auto, using(crate::proofs::LiveSteps::live_few))]
+fn leave(alloc: Global, carried: &Carried, updates: &[Update]) -> Result<Carried, Fail>
+    requires few { length carried.now.list + length updates.now ≤ 8 }
+    requires ids { carried.now.base ≤ 9 }
+{
+    let sizes = Sizes::new(8, 64, 4, 1).ok_or("sizes")?;
+    let room = Leaving::reserve(alloc, &sizes, carried)?;
+    Ok(room.finish(carried, updates))
+}
+
+#[test]
+fn a_round_leaves_what_its_log_does_not_withdraw(rt: HostRuntime) -> Result<(), Fail> {
+    let carried = two_carried(rt.alloc())?;
+    let updates = [
+        Update::Decl(meta(9)?),
+        Update::Wd(2),
+        Update::Decl(content(11)?),
+        Update::Wd(9),
+    ];
+    let left = leave(rt.alloc(), &carried, &updates)?;
+    let seven = Declared {
+        id: 7,
+        unit: meta(7)?,
+    };
+    let eleven = Declared {
+        id: 11,
+        unit: content(11)?,
+    };
+    assert_eq!(rt; left.base(), 13);
+    assert_eq!(rt; left.list(), [seven, eleven].as_slice());
+    Ok(())
+}
+
+#[test]
+fn a_round_may_leave_all_or_nothing(rt: HostRuntime) -> Result<(), Fail> {
+    let carried = two_carried(rt.alloc())?;
+    let all = leave(rt.alloc(), &carried, &[])?;
+    assert_eq!(rt; all.base(), 9);
+    assert_eq!(rt; all.list(), carried.list());
+    let none = leave(rt.alloc(), &carried, &[Update::Wd(7), Update::Wd(2)])?;
+    assert_eq!(rt; none.base(), 11);
+    assert_eq!(rt; none.list().len(), 0);
     Ok(())
 }
 

@@ -1,5 +1,5 @@
 -- With the accounts of all sessions in one view, the registry is at home, and they stand in its log.
-use Rattle.std.proofs.Common.{◌≡◌, ℕ, zero, suc, ◌+◌, ◌<◌, Bool, true, false, cond, not, List, [], ◌∷◌, map, length, get_or, Option, None, Some, refl, sym, ◌∙◌, ap, subst, tests, arith}
+use Rattle.std.proofs.Common.{◌≡◌, ℕ, suc, ◌+◌, ◌<◌, false, not, List, [], ◌∷◌, map, length, get_or, Option, None, Some, refl, sym, ◌∙◌, ap, subst, arith}
 use Rattle.std.specs.Prelude.{slice_get, find, All, AllPairs, ◌==◌, ◌||◌, if◌then◌else◌}
 use Rattle.std.specs.List.{list_any, range_with_len}
 use Rattle.std.specs.Option.{option_map}
@@ -21,6 +21,7 @@ use Rattle.reg_model.specs.Registry.{Registry}
 use Rattle.reg_model.specs.Laws.{MergeToLog}
 use Rattle.reg_model.specs.Desks.{PassView, account_of, accounts_of, close_refusal, Closes}
 use Rattle.reg_model.proofs.Merged.{accounts_merge}
+use Rattle.reg_model.proofs.GivenPasses.{has_pass, at_mapped}
 use Rattle.reg_turn.specs.declared.view.Account.{Account}
 use Rattle.reg_turn.specs.declared.view.Key.{Key}
 use Rattle.reg_turn.specs.declared.view.View.{View}
@@ -44,65 +45,6 @@ pub refusal_of : (callers many : ℕ) (now passes : List TurnPassView) (o : Opti
 refusal_of callers many now passes o is same_passes same_callers =
     (λ i. close_refusal (sym same_callers i) (views (sym same_passes i))) ∙ sym (ap (option_map Missing) (is ∙ (λ i. find (λ n. not (any_of now n i)) (range_with_len 0 callers))))
 
--- a test that is passed by no number fails of each
-none_found : (test : ℕ → Bool) (a m k : ℕ) → find test (range_with_len a m) ≡ None → k < m → test (a + k) ≡ false
-none_found test a zero k none low = absurd (omega (arith, low))
-none_found test a (suc m) zero none low = ap test (let same : a + 0 ≡ a = omega arith in same) ∙ first (test a) none
-  where
-    first : (b : Bool) → cond b (Some a) (find test (range_with_len (a + 1) m)) ≡ None → b ≡ false
-    first true h = absurd (cc (h))
-    first false h = refl
-none_found test a (suc m) (suc k) none low = ap test (let same : a + suc k ≡ a + 1 + k = omega arith in same) ∙ none_found test (a + 1) m k (others (test a) none) (omega (arith, low))
-  where
-    others : (b : Bool) → cond b (Some a) (find test (range_with_len (a + 1) m)) ≡ None → find test (range_with_len (a + 1) m) ≡ None
-    others true h = absurd (cc (h))
-    others false h = h
-
-no_missing : (o : Option ℕ) → option_map Missing o ≡ None → o ≡ None
-no_missing None h = refl
-no_missing (Some n) h = absurd (cc (h))
-
-given : (callers : ℕ) (passes : List PassView) (n : ℕ) → close_refusal callers passes ≡ None → n < callers → list_any (λ (pass : PassView). pass.number == n) passes ≡ true
-given callers passes n all low =
-    not_false (list_any (λ (pass : PassView). pass.number == n) passes)
-    (ap (λ k. not (list_any (λ (pass : PassView). pass.number == k) passes)) (let same : n ≡ 0 + n = omega arith in same) ∙ none_found (λ k. not (list_any (λ (pass : PassView). pass.number == k) passes)) 0 callers n
-    (no_missing (find (λ k. not (list_any (λ (pass : PassView). pass.number == k) passes)) (range_with_len 0 callers)) all) low)
-  where
-    not_false : (b : Bool) → not b ≡ false → b ≡ true
-    not_false true h = refl
-    not_false false h = absurd (cc (h))
-
--- the account of a session whose pass was given
-record There (accounts : List Account) (passes : List PassView) (n : ℕ) : Type 0 where
-  place : ℕ
-  account : Account
-  at : get_elem? accounts place ≡ some account
-  number : account.number ≡ n
-  rows : account.rows ≡ account_of passes n
-
-there : (passes : List PassView) (n : ℕ) → list_any (λ (pass : PassView). pass.number == n) passes ≡ true → There (map account_in passes) passes n
-there [] n any = absurd (cc (any))
-there (p ∷ passes) n any = cases (p.number == n) refl (there passes n)
-  where
-    cases : (b : Bool) → (p.number == n) ≡ b → (list_any (λ (pass : PassView). pass.number == n) passes ≡ true → There (map account_in passes) passes n)
-        → There (map account_in (p ∷ passes)) (p ∷ passes) n
-    cases true is later = record {
-      place = 0;
-      account = account_in p;
-      at = refl;
-      number = search (tests, is);
-      rows = sym (ap (λ b. if b then p.account else account_of passes n) is);
-    }
-    cases false is later =
-        let rest = later (sym (ap (λ b. b || list_any (λ (pass : PassView). pass.number == n) passes) is) ∙ any) in
-        record {
-          place = suc rest.place;
-          account = rest.account;
-          at = rest.at;
-          number = rest.number;
-          rows = rest.rows ∙ sym (ap (λ b. if b then p.account else account_of passes n) is);
-        }
-
 -- ---- the registry is at home
 
 one_view : (s : State Slot View) (i j : ℕ) (v w : View) → get_elem? s.views i ≡ some v → get_elem? s.views j ≡ some w → i ≡ j → v ≡ w
@@ -119,8 +61,8 @@ at_home key s k id v passes at quiet are all = dite (ℕ_discrete (get_or s.word
     let b = first_account h.view.accounts h.account in
     let theirs = (k.fits k.holder h.view h.at).owns 0 b.0 b.1 in
     let low : b.0.number < key.sizes.callers = omega (arith, slice_get_within k.accounts b.0.number b.0.rows theirs.rows_are, k.callers) in
-    let here = there passes b.0.number (given key.sizes.callers passes b.0.number all low) in
-    let mine = (k.fits id v at).owns here.place here.account (ap (λ (l : List Account). get_elem? l here.place) are ∙ here.at) in
+    let here = has_pass key.sizes.callers passes b.0.number all low in
+    let mine = (k.fits id v at).owns here.place (account_in here.pass) (ap (λ (l : List Account). get_elem? l here.place) are ∙ at_mapped account_in passes here.place here.pass here.at) in
     let who : k.holder ≡ id = ap (λ (z : ℕ × ℕ). z.0) (sym theirs.owner_is ∙ (ap k.owner (sym here.number) ∙ mine.owner_is)) in
     let is : h.view ≡ v = one_view s k.holder id h.view v h.at at who in
     absurd (cc (h.holds, quiet, ap (λ (x : View). x.holds) is)))
@@ -140,8 +82,8 @@ their_accounts : (key : Key) (s : State Slot View) (k : Kept key s) (id : ℕ) (
 their_accounts key s k id v passes at are all =
     tabulated k.accounts (account_of passes) 0
     (λ n low.
-    let here = there passes n (given key.sizes.callers passes n all (omega (arith, low, k.callers))) in
-    let mine = (k.fits id v at).owns here.place here.account (ap (λ (l : List Account). get_elem? l here.place) are ∙ here.at) in
+    let here = has_pass key.sizes.callers passes n all (omega (arith, low, k.callers)) in
+    let mine = (k.fits id v at).owns here.place (account_in here.pass) (ap (λ (l : List Account). get_elem? l here.place) are ∙ at_mapped account_in passes here.place here.pass here.at) in
     ap (slice_get k.accounts) (sym here.number) ∙ (mine.rows_are ∙ (ap Some here.rows ∙ ap (λ m. Some (account_of passes m)) (let same : n ≡ 0 + n = omega arith in same))))
     ∙ ap (λ m. accounts_of m passes) k.callers
 

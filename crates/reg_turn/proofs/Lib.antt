@@ -1,5 +1,4 @@
 pub mod Views
-pub mod FirstNumber
 pub mod ServedRows
 pub mod TurnSteps
 pub mod SeatSteps

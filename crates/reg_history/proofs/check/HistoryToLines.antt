@@ -24,7 +24,7 @@ use Rattle.reg_history.specs.History.{carry_line, round_line, row_line, rounds_t
 use Rattle.reg_history.specs.lines.Values.{IsDeclaredValue, IsRowValue, IsRunValue}
 use Rattle.reg_history.specs.lines.HistoryLines.{whole_line, IsToldRoundValue}
 use Rattle.reg_history.specs.check.Checking.{Front, Nothing, Carried, Serving, after, after_all, begun, OpensRound, HasEndNumbers, IsAllowed, Owes, CanStand, EachStands, IsHistoryOf}
-use Rattle.reg_history.proofs.RunValues.{live_few}
+use Rattle.reg_model.proofs.LiveSteps.{live_few}
 use Rattle.reg_history.proofs.lines.RunsBack.{AreRows}
 use Rattle.reg_history.proofs.check.LinesToHistory.{closing-push}
 use Rattle.reg_history.proofs.check.ToldRows.{line_of_row, rows_text, with_bits, each_with, rows_at, rows_stand}

@@ -2,7 +2,7 @@ use Rattle.std.proofs.Common.{sym, ap, ◌∙◌}
 use Rattle.std.specs.Prelude.{not, ◌==◌}
 use Rattle.std.specs.List.{list_any}
 use Rattle.reg_turn.specs.Turns.{TurnPassView}
-use Rattle.reg_turn.proofs.FirstNumber.{found_here, found_later}
+use Rattle.reg_model.proofs.GivenPasses.{found_here, found_later}
 use Rattle.reg_turn.proofs.desk.missing.Goals as goal
 
 pub returns-then-not-has_number : goal.returns-then-not-has_number
