@@ -1,0 +1,9 @@
+use Rattle.std.specs.Prelude.{None}
+use Rattle.reg_model.specs.declared.update.Update.TheVariants.{Wd}
+use Rattle.reg_rule.specs.declared.told.Told.TheVariants.{Nothing}
+use Rattle.reg_rule.specs.Log.{place_of}
+use Rattle.reg_rule.specs.Fresh.{unswept}
+use Rattle.reg_rule.proofs.help_steps.store_note.Given as goal
+
+abbrev pub ghosts-store_note_as : goal.ghosts-store_note_as
+ghosts-store_note_as a = record { told = Nothing; table = 0; at = a.place; place = place_of (Wd 0) 0; word = unswept; code = None }

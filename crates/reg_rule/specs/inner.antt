@@ -1,0 +1,22 @@
+-- What only the rule, its proofs and private contracts use.
+pub mod World
+pub mod LogParts
+pub mod AccountParts
+pub mod SeatParts
+pub mod Entries
+pub mod ChainParts
+pub mod Sweeping
+pub mod PinParts
+pub mod HelpParts
+pub mod HandParts
+pub mod Walks
+pub mod Takers
+pub mod HolderParts
+pub mod Queries
+pub mod Rule
+pub mod Opening
+pub mod Ending
+pub mod Remembering
+pub mod Plays
+pub mod LastWords
+pub mod Trials
