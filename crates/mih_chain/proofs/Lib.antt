@@ -1,0 +1,3 @@
+mod Pushes
+mod WalkSteps
+mod Cuts

@@ -1,0 +1,3 @@
+-- Used by proofs and private contracts only.
+pub mod Turns
+pub mod Ways

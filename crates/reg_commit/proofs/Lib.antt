@@ -1,0 +1,4 @@
+mod Logs
+mod Walks
+mod Turns
+mod Helped

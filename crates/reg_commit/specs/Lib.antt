@@ -1,0 +1,4 @@
+pub mod Fronts
+pub mod Helps
+pub mod Takes
+pub mod inner
