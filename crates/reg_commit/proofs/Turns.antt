@@ -1,5 +1,5 @@
 -- A take, turn by turn.
-use Rattle.std.proofs.Common.{◌≡◌, ℕ, ◌+◌, ◌<◌, ◌≤◌, ◌==◌, Bool, cond, length, List, [], ◌∷◌, ◌++◌, append_assoc, count_by, take, All, ap, ◌∙◌, subst, arith}
+use Rattle.std.proofs.Common.{◌≡◌, ℕ, ◌+◌, ◌<◌, ◌≤◌, ◌==◌, Bool, cond, length, List, [], ◌∷◌, ◌++◌, append_assoc, count_by, take, All, refl, ap, ◌∙◌, subst, arith}
 use Rattle.std.proofs.lemmas.List.Sums.{sum_by-append}
 use Rattle.std.proofs.lemmas.List.Elements.{All-append, All-cons, All-nil}
 use Rattle.reg_model.specs.Live.{declarations, withdrawals}
@@ -63,6 +63,7 @@ none_there v x w taken s told =
       given = subst (λ (z : View). z.key.sizes.entries + withdrawals (updates (take z.stopped z.log)) ≤ taken + length z.key.carried.list) s.view told.given;
       steps = s.steps ++ 10 ∷ [];
       are = record { kinds = All-append IsRing s.steps (10 ∷ []) s.kinds look; few = omega arith };
+      ends = (s.steps, refl);
       view = told.view ∙ (ap (λ (z : View). found_empty z taken told.front) s.view ∙ (λ j. record (found_empty v taken told.front) { made = made j }));
     }
 

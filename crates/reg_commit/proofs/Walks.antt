@@ -147,6 +147,7 @@ reloaded told v w places found is one all loaded =
     record {
       places = [];
       loads = 1;
+      some = omega arith;
       few = omega arith;
       front_is = omega arith;
       view = old.3 ∙ (again_all told v full ∙ (ap (λ (z : View). at_front told z v.key.sizes.log) start ∙ ap (at_front told (walked_to v [] 1)) (sym is)));
@@ -162,6 +163,7 @@ front_here told v x w place found (inl s) at low loaded none =
     record {
       places = s.places;
       loads = length s.places + 1;
+      some = omega arith;
       few = omega arith;
       front_is = at ∙ len;
       view = loaded.empty at none ∙ ap (λ (z : View). at_front told z place) (ap (λ (z : View). with_step z 1) s.view ∙ one_load v s.places (length s.places));
@@ -221,6 +223,7 @@ walks_on told v x w place found may (inl s) at low loaded some =
         record {
           places = s.places ++ p ∷ [];
           loads = length s.places + 1;
+          some = omega arith;
           few = (let b = longer in omega arith);
           front_is = (let a = one_longer in let b = longer in let c = len in let d = size in omega arith);
           view = next.2 ∙ (filled_last told x p still full ∙ (ap (λ (z : View). at_front told z x.key.sizes.log) grown ∙ ap (at_front told (walked_to v (s.places ++ p ∷ []) (length s.places + 1))) size));

@@ -25,7 +25,8 @@ pub record FrontFound (told : Told) (v : View) (front : ℕ) (w : View) : Type 0
   -- what was newly seen, and how many loads there were
   pub places : List Place
   pub loads : ℕ
-  -- one more at most than the places newly seen
+  -- one at least, and one more at most than the places newly seen
+  pub some : 0 < loads
   pub few : loads ≤ length places + 1
   pub front_is : front ≡ length v.log + length places
   pub view : w ≡ at_front told (walked_to v places loads) front

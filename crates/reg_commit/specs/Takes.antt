@@ -1,5 +1,5 @@
 -- What taking an entry from the ring does.
-use Rattle.std.specs.Prelude.{◌≡◌, ℕ, ◌+◌, ◌<◌, ◌≤◌, ◌==◌, List, ◌++◌, length, take, count_by, All}
+use Rattle.std.specs.Prelude.{◌≡◌, ℕ, ◌+◌, ◌<◌, ◌≤◌, ◌==◌, List, [], ◌∷◌, ◌++◌, length, take, count_by, All}
 use Rattle.reg_model.specs.Live.{declarations, withdrawals}
 use Rattle.reg_rule.specs.declared.view.Key.{Key}
 use Rattle.reg_rule.specs.declared.view.View.{View}
@@ -28,4 +28,6 @@ pub record FoundEmpty (v : View) (taken : ℕ) (w : View) : Type 0 where
   pub given : v.key.sizes.entries + withdrawals (updates (take v.stopped v.log)) ≤ taken + length v.key.carried.list
   pub steps : List ℕ
   pub are : AreTaking v.key steps
+  -- of this call: the last of them, which loaded PUT
+  pub ends : (before : List ℕ) × (steps ≡ before ++ 10 ∷ [])
   pub view : w ≡ record (found_empty v taken front) { made = v.made ++ steps }
