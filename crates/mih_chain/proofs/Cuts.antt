@@ -16,7 +16,7 @@ use Rattle.reg_rule.specs.Conditions.{MayCut, MayCutNext, MayLoadNext, MayCutHea
 use Rattle.reg_rule.specs.Moves.{holder_did, on_holding, on_way, at_head, behind_at, cut_from}
 use Rattle.reg_rule.specs.Steps.{NextTells, WayMoves, HeadTells, HeadSought, HeadCut}
 use Rattle.mih_chain.specs.Linking.{MayUnlink, IsUnlinking, Unlinked}
-use Rattle.mih_chain.specs.inner.Ways.{way, IsOnWay, GoesOn, HasDone, IsFollowing, way_length, left_of, ahead_of}
+use Rattle.mih_chain.specs.inner.Ways.{way, behind_link, IsOnWay, GoesOn, HasDone, IsFollowing, way_length, left_of, ahead_of}
 
 -- ---- notes
 
@@ -128,8 +128,8 @@ module _ (v x w : View) (table entry at behind : ℕ) (f : IsFollowing v x table
     abbrev last : Holding
     last = on_way table at [] f.on.holding
 
-    pub may_cut : MayCutNext table at (entry + 1) behind w
-    may_cut = (
+    pub may_cut : (old new : ℕ) → old ≡ entry + 1 → new ≡ behind → MayCutNext table at old new w
+    may_cut old new old_is new_is = (
       subst (λ (z : View). at < z.key.entries) (sym g.1) f.on.inside,
       (
         last,
@@ -138,8 +138,8 @@ module _ (v x w : View) (table entry at behind : ℕ) (f : IsFollowing v x table
         f.on.unit,
         may_still table x w f.on.holding last f.on.id entry f.on.unit (one_step (on_way table at []) 16 seeks g.1) refl refl refl refl refl f.on.may,
         refl,
-        refl,
-        f.on.behind_is,
+        old_is,
+        f.on.behind_is ∙ (λ j. Some (behind_link table (sym new_is j))),
       ),
     )
 
@@ -258,10 +258,10 @@ module _ (table bucket entry : ℕ) (v : View) (may : MayUnlink table bucket ent
           after_lost : (other : seen ≢ entry + 1) → HasDone v y (on_way table (cut.lost other).0 (cut.lost other).1 (behind_at table behind (at_head h)))
           after_lost other = let a = cut.lost other in done_more v x y (behind_at table behind (at_head h)) (on_way table a.0 a.1) 20 (inr (inr (inl refl))) there.0 a.5
 
-          pub lost_there : seen ≢ entry + 1 → (ahead : List ℕ) × IsOnWay y table entry (seen - 1) behind ahead
-          lost_there other =
+          pub lost_there : (start : ℕ) → start ≡ seen - 1 → seen ≢ entry + 1 → (ahead : List ℕ) × IsOnWay y table entry start behind ahead
+          lost_there start start_is other =
               let a = cut.lost other in let g : Holding = on_way table a.0 a.1 (behind_at table behind (at_head h)) in let e = after_lost other in
-              let one : a.0 ≡ seen - 1 = (let f = a.2 in omega arith) in (
+              let one : a.0 ≡ start = (let f = a.2 in omega arith) in (
                 a.1,
                 record {
                   holding = g;

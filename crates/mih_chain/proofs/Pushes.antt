@@ -27,8 +27,8 @@ module _ (v : View) (entry code table : ℕ) (low : table < 4) (is : IsUnlinkedH
   stored : (u x : View) (word : ℕ) → u ≡ with_step v 13 → x ≡ made_ready u table word → x ≡ made_ready (with_step v 13) table word
   stored u x word loaded told = told ∙ ap (λ (z : View). made_ready z table word) loaded
 
-  pub may_swap : (u x : View) (word bucket new : ℕ) → u ≡ with_step v 13 → x ≡ made_ready u table word → bucket ≡ bucket_of code table v.key.sizes.bits → new ≡ entry + 1 → MaySwapHead table bucket word new x
-  may_swap u x word bucket new loaded told bucket_is new_is =
+  pub may_swap : (u x : View) (word bucket old new : ℕ) → u ≡ with_step v 13 → x ≡ made_ready u table word → bucket ≡ bucket_of code table v.key.sizes.bits → old ≡ word → new ≡ entry + 1 → MaySwapHead table bucket old new x
+  may_swap u x word bucket old new loaded told bucket_is old_is new_is =
       let here = stored u x word loaded told in
       record {
         table_is = low;
@@ -39,7 +39,7 @@ module _ (v : View) (entry code table : ℕ) (low : table < 4) (is : IsUnlinkedH
           is.4,
           is.5,
           is.6,
-          refl,
+          (λ j. Some (record { table = table; word = sym old_is j })),
           bucket_is ∙ ap (λ (z : View). bucket_of code table z.key.sizes.bits) (sym here),
           new_is ∙ ap (λ (n : ℕ). n + 1) (sym is.2),
         );
