@@ -29,7 +29,7 @@ mod CursorsMoved
 mod CursorsSeen
 mod CountsKept
 mod Refused
-mod Costs
+pub mod Costs
 mod Tells
 mod Balance
 mod Cutting
@@ -51,7 +51,7 @@ mod StampSeen
 mod LoadsStamp
 mod ChainsKept
 mod ChainSteps
-mod Bridge
+pub mod Bridge
 mod AccountsKept
 mod MetKept
 mod Ways

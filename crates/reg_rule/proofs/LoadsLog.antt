@@ -46,7 +46,7 @@ use Rattle.reg_rule.proofs.RowsEnter.{has_head, length_grown, row_inv}
 use Rattle.reg_rule.proofs.FrontReplies.{Decided, reply_enters, reply_enters_by, no_row, replied_inv}
 use Rattle.reg_rule.proofs.Doors.{St, load_keeps}
 use Rattle.reg_rule.proofs.Remembering.{and_off, grown_rest, fronted_rest, stops_rest, passed_rest, tells_declaration, counts_none, loaded_filled, loaded_empty}
-use Rattle.reg_rule.proofs.Tells.{seen_fits}
+use Rattle.reg_rule.proofs.Tells.{rows_served, seen_fits}
 use Rattle.reg_rule.proofs.Alone.{alone}
 use Rattle.reg_rule.proofs.Refused.{count_take, all_held}
 use Rattle.reg_rule.proofs.CountsKept.{count_snoc}
@@ -319,6 +319,9 @@ filled_rest told place found v p here word full =
     ap (fronted_rest told places (n == places)) (passed_rest v 1 p ∙ ap (λ (b : Bool). counting b r) (sym (tells_declaration v.key.carried.base place found p word)))
     ∙ (loaded_filled told true found n places r (ne_eqb found 0 full) ∙ (λ i. log_loaded told (sym (eq-eqb place (length v.log) here) i) found (same i) places r))
 
+many : {a b : ℕ} → a ≡ b → 0 < b → 0 < a
+many {a} {b} e h = omega arith
+
 loads_old : (key : Key) (slots id : ℕ) (me : Sat) (told : Told) (place : ℕ) → MayLoadLog told place me.0 → place < length me.0.log → me.0.live ≡ true → 0 < length me.0.accounts → (s : St) (k : Kept key s) → get_elem? s.views id ≡ some me.0
     → Goes key s id me (start (sizes key) LOG + place) (seated_more told place (LogLoaded told place) (step slots (start (sizes key) LOG + place) 0 0 none) me)
 loads_old key slots id me told place may low live one s k at =
@@ -340,6 +343,7 @@ loads_old key slots id me told place may low live one s k at =
           old = λ _. (p.0, p.1, word, refl);
           alone = λ c e. absurd (omega arith);
           seen = subst (λ (z : Key). SeenFits z v.log) (sym knows) (seen_fits key (m LOG) w.log id v i.key_part i.log saw);
+          rows = rows_served key m r.0 (set s.views id (again told v)) id (again told v) r.1 (set_at_own s.views id v (again told v) at) (stays.key ∙ knows) (many stays.sessions one);
           reached = λ h has e. absurd (omega arith);
           most = λ h has. subst (λ (z : Key). (h.place ≤ z.sizes.log) × (h.word.limbo ≡ true → h.paid ≡ false → h.place < z.sizes.log)) (sym knows) (place_most key m w s.views id v i at h has);
           limbo = λ h has on unpaid low. limbo_seen key m w s.views id v i at h has on unpaid v.log saw.0 saw.1 low;
@@ -370,6 +374,7 @@ loads_next key slots id me told place may here live one s k at [] is =
           old = λ e. absurd (omega arith);
           alone = λ c e. word;
           seen = subst (λ (z : Key). SeenFits z v.log) (sym knows) (seen_fits key (m LOG) w.log id v i.key_part i.log (i.saw id v at));
+          rows = rows_served key m r.0 (set s.views id after) id after (subst (Inv key m r.0) (set_twice s.views id u after) r.1) (set_at_own s.views id v after at) (stays.key ∙ knows) (many stays.sessions one);
           reached = λ h has e z. ((let r = reached key m w s.views id v i at h has in omega arith), (λ on unpaid. let r = limbo_inside key m w s.views id v i at h has on unpaid in omega arith));
           most = λ h has. subst (λ (z : Key). (h.place ≤ z.sizes.log) × (h.word.limbo ≡ true → h.paid ≡ false → h.place < z.sizes.log)) (sym knows) (place_most key m w s.views id v i at h has);
           limbo = λ h has on unpaid low. limbo_seen key m w s.views id v i at h has on unpaid v.log [] is low;
@@ -402,6 +407,7 @@ loads_next key slots id me told place may here live one s k at (p ∷ more) is =
           old = λ e. absurd (omega arith);
           alone = λ c e. absurd (alone_seen key m w s.views id v p more i at one (sym callers ∙ c) is);
           seen = subst (λ (z : Key). SeenFits z (v.log ++ p ∷ [])) (sym knows) (seen_fits key (m LOG) w.log id (passed v 1 p) i.key_part i.log (more, is ∙ sym (append_assoc v.log (p ∷ []) more)));
+          rows = rows_served key m r.0 (set s.views id (filled told v p)) id (filled told v p) r.1 (set_at_own s.views id v (filled told v p) at) (stays.key ∙ knows) (many stays.sessions one);
           reached = λ h has e z. absurd (filled_word z);
           most = λ h has. subst (λ (z : Key). (h.place ≤ z.sizes.log) × (h.word.limbo ≡ true → h.paid ≡ false → h.place < z.sizes.log)) (sym knows) (place_most key m w s.views id v i at h has);
           limbo = λ h has on unpaid low. limbo_seen key m w s.views id v i at h has on unpaid (v.log ++ p ∷ []) more (is ∙ sym (append_assoc v.log (p ∷ []) more)) low;

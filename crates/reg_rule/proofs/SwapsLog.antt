@@ -49,7 +49,7 @@ use Rattle.reg_rule.proofs.AccountsKept.{accounts_committed}
 use Rattle.reg_rule.proofs.Floors.{last_complete}
 use Rattle.reg_rule.proofs.Balance.{few_live}
 use Rattle.reg_rule.proofs.Bridge.{live_listed}
-use Rattle.reg_rule.proofs.Tells.{seen_fits}
+use Rattle.reg_rule.proofs.Tells.{rows_served, seen_fits}
 use Rattle.reg_rule.proofs.Fits.{Fits}
 use Rattle.reg_rule.proofs.Passed.{passed_inv}
 use Rattle.reg_rule.proofs.RowsEnter.{with_row, has_head, length_grown}
@@ -348,7 +348,7 @@ loses_log key s k slots id me place old new update e may live one at some_found 
       w,
       inv,
       (
-        record { won = λ none_found. absurd (some_found none_found); lost = λ _. (q, word, refl); seen = seen_after key m w s.views id v (passed v 2 q) inv at knows },
+        record { won = λ none_found. absurd (some_found none_found); lost = λ _. (q, word, refl); seen = seen_after key m w s.views id v (passed v 2 q) inv at knows; rows = rows_served key m w (set s.views id (passed v 2 q)) id (passed v 2 q) inv (set_at_own s.views id v (passed v 2 q) at) knows one },
         record { live = refl; key = refl; sessions = refl; seen = length_one_more v.log q; hand = left_lost v update (m LOG place) some_found; remembered = lost_rest v update (m LOG place) place q word some_found },
         refl,
       ),
@@ -365,7 +365,7 @@ swaps_log key slots id me place old new update e may live one s k wide at _ =
       inv.0,
       inv.1,
       (
-        record { won = λ _. refl; lost = λ some_found. absurd (some_found none_found); seen = seen_after key (write m LOG place new) inv.0 s.views id v (committed v r) inv.1 at knows },
+        record { won = λ _. refl; lost = λ some_found. absurd (some_found none_found); seen = seen_after key (write m LOG place new) inv.0 s.views id v (committed v r) inv.1 at knows; rows = rows_served key (write m LOG place new) inv.0 (set s.views id (committed v r)) id (committed v r) inv.1 (set_at_own s.views id v (committed v r) at) knows (let g = length_grown v.accounts (Some (row_placed v update)) in omega arith) },
         record { live = refl; key = refl; sessions = length_grown v.accounts (Some (row_placed v update)); seen = length_one_more v.log r; hand = left_won v update e (m LOG place) may.record_is none_found; remembered = won_rest v r (m LOG place) none_found },
         refl,
       ),

@@ -1,5 +1,5 @@
 -- What the loads of the log and of a stamp tell (kinds 1, 2 and 7).
-use Rattle.std.proofs.Common.{◌≡◌, ℕ, ◌+◌, ◌^◌, ◌<◌, ◌≤◌, inl, inr, ⊎_elim, List, ◌++◌, take, length, length-append, sym, refl, ap, ◌∙◌, subst, lt_of_not-le, arith}
+use Rattle.std.proofs.Common.{◌≡◌, ℕ, ◌+◌, ◌^◌, ◌<◌, ◌≤◌, inl, inr, ⊎_elim, Bool, true, false, true≢false, if◌then◌else◌, is_some, Option, None, Some, List, ◌++◌, take, length, length-append, sym, refl, ap, ◌∙◌, subst, lt_of_not-le, arith}
 use mathlib.Core.Logic.{dite}
 use native.Mathlib.Decide.{dec_le}
 use Rattle.std.proofs.lemmas.List.{take-append-le}
@@ -10,13 +10,21 @@ use Rattle.reg_words.specs.declared.word.StampWord.TheVariants.{Unborn, Live, De
 use Rattle.reg_rule.specs.declared.view.Key.{Key}
 use Rattle.reg_rule.specs.declared.view.Place.{Place}
 use Rattle.reg_rule.specs.declared.view.View.{View}
-use Rattle.reg_rule.specs.Log.{At, IsDecl, IsWd, Declares, IsLiveIn, place_of, record_at}
+use Rattle.reg_rule.specs.Log.{At, updates, IsDecl, IsWd, Declares, IsLiveIn, place_of, record_at}
 use Rattle.reg_rule.specs.inner.World.{Use, free, in_hand, holds}
 use Rattle.reg_rule.specs.inner.LogParts.{LogPart}
 use Rattle.reg_rule.specs.inner.SeatParts.{Saw}
 use Rattle.reg_rule.specs.inner.Entries.{UsesPart, StampsPart, StampFits, HasKind}
 use Rattle.reg_rule.specs.inner.Rule.{KeyPart}
-use Rattle.reg_rule.specs.Steps.{SeenFits, FitsBits, LooksLive}
+use Rattle.reg_rule.specs.Steps.{SeenFits, IsServed, RowsServed, FitsBits, LooksLive}
+use Rattle.reg_rule.specs.inner.AccountParts.{IsAnswered}
+use Rattle.reg_rule.specs.inner.World.{World}
+use Rattle.reg_rule.specs.inner.Rule.{Inv}
+use Rattle.reg_rule.proofs.RowsEnter.{has_head}
+use Rattle.std.proofs.lemmas.List.{length-map}
+use Rattle.reg_model.specs.declared.reply.Row.{Row}
+use Rattle.reg_model.specs.Rows.{is_accepted, update_of}
+use lib.ListN.{get_elem?}
 use Rattle.atomic_table.proofs.Lists.{at_longer}
 use Rattle.reg_rule.proofs.Shows.{at_inside, at_below, take_at, length_take}
 use Rattle.reg_rule.proofs.Once.{IsLawfulLog, declared_below, wd_declares, wd_once, wd_entry}
@@ -50,6 +58,34 @@ seen_fits key cells log id v ok part saw = record {
 } where
   whole : (n : ℕ) (p : Place) → At v.log n p → At log n p
   whole n p at = subst (λ (l : List Place). At l n p) (sym saw.1) (at_longer v.log saw.0 n p at)
+
+-- the rows of a seat, which stand in the account of its session
+pub rows_served : (key : Key) (m : ℕ → ℕ → ℕ) (w : World) (views : List View) (id : ℕ) (v : View) → Inv key m w views → get_elem? views id ≡ some v → v.key ≡ key → 0 < length v.accounts → RowsServed v
+rows_served key m w views id v i at knows one j row there =
+    let head = has_head v.accounts one in let owned = i.owns id v at 0 head.0 head.1 in
+    let f = i.accounts.fits (head.0).number j row owned.below (subst (λ (l : List Row). At l j row) (head.3 ∙ sym owned.rows_are) there) in
+    let a = f.answered in let all : length (updates w.log) ≡ length w.log = length-map w.log (λ (q : Place). q.update) in
+    let long : length (take a.place (updates w.log)) ≡ a.place = length_take (updates w.log) a.place a.within in
+    subst (λ (z : Key). IsServed z row) (sym knows) (record {
+      log = take a.place (updates w.log);
+      within = by_accepted (is_accepted row) refl a f.made all long;
+      point = (let p = a.point in omega arith);
+      reply = a.reply;
+    }) where
+      -- an accepted row made the update of its place, so this is one of the log
+      by_update : (o : Option Update) → update_of row.call row.reply ≡ o → is_some o ≡ true → (update : Update) × (update_of row.call row.reply ≡ Some update)
+      by_update None is full = absurd (true≢false (sym full))
+      by_update (Some update) is full = (update, is)
+
+      by_accepted : (b : Bool) → is_accepted row ≡ b → (a : IsAnswered key.sizes key.carried (updates w.log) row) → ((p : ℕ) (update : Update) → update_of row.call row.reply ≡ Some update → row.point ≡ key.carried.base + p + 1 → At (updates w.log) p update)
+          → length (updates w.log) ≡ length w.log → length (take a.place (updates w.log)) ≡ a.place → length (take a.place (updates w.log)) + (if is_accepted row then 1 else 0) ≤ key.sizes.log
+      by_accepted true is a made all long =
+          let one : (if◌then◌else◌ {A = ℕ} (is_accepted row) 1 0) ≡ 1 = ap (λ (b : Bool). if◌then◌else◌ {A = ℕ} b 1 0) is in
+          let u = by_update (update_of row.call row.reply) refl is in let p = a.point in
+          let inside = at_inside (updates w.log) a.place u.0 (made a.place u.0 u.1 (omega arith)) in let short = i.log.short in omega arith
+      by_accepted false is a made all long =
+          let none : (if◌then◌else◌ {A = ℕ} (is_accepted row) 1 0) ≡ 0 = ap (λ (b : Bool). if◌then◌else◌ {A = ℕ} b 1 0) is in
+          let short = i.log.short in let low = a.within in omega arith
 
 -- kind 7: the numbers of a stamp
 pub stamp_bits : (key : Key) (cells logs : ℕ → ℕ) (log : List Place) (returned entry : ℕ) (uses : ℕ → Use) (stamps : ℕ → StampWord) → KeyPart key → LogPart key logs log → UsesPart key log returned uses

@@ -1,9 +1,13 @@
 -- What a step tells: the view after it, and what the word found says. Callers cite these.
-use Rattle.std.specs.Prelude.{◌≡◌, ◌≢◌, ℕ, ◌+◌, ◌^◌, ◌<◌, ◌≤◌, true, false, List, [], ◌∷◌, length, take, Option, Some}
+use Rattle.std.specs.Prelude.{◌≡◌, ◌≢◌, ℕ, ◌+◌, ◌^◌, ◌<◌, ◌≤◌, true, false, if◌then◌else◌, List, [], ◌∷◌, length, take, Option, Some}
 use Rattle.iscc_header.specs.declared.unit.Unit64.{Unit64}
 use Rattle.mih_plan.specs.Buckets.{bucket_of}
 use Rattle.reg_model.specs.Opening.{Opening}
 use Rattle.reg_model.specs.Live.{declarations, withdrawals}
+use Rattle.reg_model.specs.Replies.{Replies}
+use Rattle.reg_model.specs.Rows.{is_accepted}
+use Rattle.reg_model.specs.declared.reply.Row.{Row}
+use Rattle.reg_model.specs.declared.update.Update.{Update}
 use Rattle.reg_words.specs.declared.word.StampWord.{StampWord}
 use Rattle.reg_words.specs.declared.word.StampWord.TheVariants.{Unborn, Live, Dead}
 use Rattle.reg_words.specs.declared.word.SweepWord.{SweepWord}
@@ -22,7 +26,7 @@ use Rattle.reg_rule.specs.Seats.{ReliesOn}
 use Rattle.reg_rule.specs.Helping.{HasHelped}
 use Rattle.reg_rule.specs.Chains.{Member, Avoids, Once}
 use Rattle.reg_rule.specs.SweepWords.{rank}
-use Rattle.reg_rule.specs.Moves.{with_step, head_number, TellsHits, at_front, filled, again, passed, committed, coded, is_dead, looked, noted, helped, stored_held, take_loaded, put_loaded, found_empty, give_loaded, took, missed, made_ready, pushed, first_met, none_met, next_met, walked, pinned, unpinned, pin_kept, pin_loaded, seized, found_held, found_moved, swept_to, holder_did, behind_at, on_way, at_head, cut_from, put_known, give_stored, put_stored}
+use Rattle.reg_rule.specs.Moves.{with_step, head_number, head_rows, TellsHits, at_front, filled, again, passed, committed, coded, is_dead, looked, noted, helped, stored_held, take_loaded, put_loaded, found_empty, give_loaded, took, missed, made_ready, pushed, first_met, none_met, next_met, walked, pinned, unpinned, pin_kept, pin_loaded, seized, found_held, found_moved, swept_to, holder_did, behind_at, on_way, at_head, cut_from, put_known, give_stored, put_stored}
 
 -- ---- the log
 
@@ -36,6 +40,17 @@ pub record SeenFits (key : Key) (log : List Place) : Type 0 where
   pub ids : key.carried.base + key.sizes.log ≤ 2 ^ 34
   pub room : length log ≤ key.sizes.log
 
+-- The row's reply is the registry's after these updates, which are below its point.
+pub record IsServed (key : Key) (row : Row) : Type 0 where
+  pub log : List Update
+  pub within : length log + (if is_accepted row then 1 else 0) ≤ key.sizes.log
+  pub point : row.point ≡ key.carried.base + length log + (if is_accepted row then 1 else 0)
+  pub reply : Replies key.sizes key.carried log row.call row.reply
+
+-- each row of the seat's own account is
+abbrev pub RowsServed : View → Type 0
+RowsServed v = (i : ℕ) (row : Row) → At (head_rows v.accounts) i row → IsServed v.key row
+
 -- kind 1
 pub record LogLoaded (told : Told) (place : ℕ) (v : View) (found : ℕ) (w : View) : Type 0 where
   pub empty : place ≡ length v.log → found ≡ 0 → w ≡ at_front told (with_step v 1) place
@@ -44,6 +59,7 @@ pub record LogLoaded (told : Told) (place : ℕ) (v : View) (found : ℕ) (w : V
   -- one caller has seen all that there is
   pub alone : v.key.sizes.callers ≡ 1 → place ≡ length v.log → found ≡ 0
   pub seen : SeenFits v.key w.log
+  pub rows : RowsServed w
   -- the holder of the sweep is no further than the log, and what is in limbo is a withdrawal
   pub reached : (h : Holding) → v.holding ≡ Some h → place ≡ length v.log → found ≡ 0 → (h.place ≤ place) × (h.word.limbo ≡ true → h.paid ≡ false → h.place < place)
   pub most : (h : Holding) → v.holding ≡ Some h → (h.place ≤ v.key.sizes.log) × (h.word.limbo ≡ true → h.paid ≡ false → h.place < v.key.sizes.log)
@@ -54,6 +70,7 @@ pub record LogSwapped (place : ℕ) (p : Place) (v : View) (found : ℕ) (w : Vi
   pub won : found ≡ 0 → w ≡ committed v p
   pub lost : found ≢ 0 → (q : Place) × (found ≡ place_word v.key.carried.base place q) × (w ≡ passed v 2 q)
   pub seen : SeenFits v.key w.log
+  pub rows : RowsServed w
 
 -- ---- looks
 

@@ -1,5 +1,5 @@
 // The table under its rule, and one caller of it.
-ghost use Rattle.std.specs.Prelude.{◌≡◌, ◌+◌, ◌<◌, ◌≤◌, ◌^◌, []};
+ghost use Rattle.std.specs.Prelude.{◌≡◌, ◌+◌, ◌<◌, ◌≤◌, ◌^◌, [], length};
 ghost use Rattle.reg_words.specs.Memory.{PIN, HEAD, CODE, STAMP, NEXT, GIVE, LOG, NOTE, start};
 ghost use Rattle.reg_rule.specs.inner.ChainParts.{head_cell, next_cell};
 ghost use Rattle.reg_rule.specs.Fresh.{fresh};
@@ -24,7 +24,7 @@ pub struct Words {
 }
 
 impl Model for Words {
-    ghost use Rattle.std.specs.Prelude.{◌≡◌, ◌≤◌, ◌+◌, ◌*◌, ◌^◌};
+    ghost use Rattle.std.specs.Prelude.{◌≡◌, ◌≤◌, ◌+◌, ◌*◌, ◌^◌, length};
     ghost use Rattle.atomic_table.specs.Seated.{TableId};
     ghost use Rattle.reg_words.specs.Memory.{whole};
     ghost use Rattle.reg_rule.specs.declared.view.Key.{Key};
@@ -34,7 +34,7 @@ impl Model for Words {
 
     ghost view = { λ w. (w.table.shared.table_id, w.table.shared.key) };
 
-    ghost invariant = { λ w. (w.table.shared.table_id.words ≡ 1 + whole (areas w.table.shared.key)) × (w.table.shared.table_id.slots ≡ 0) × (w.sizes ≡ w.table.shared.key.sizes) × (w.table.shared.key.entries ≡ w.table.shared.key.sizes.entries) × (w.heads ≡ 4 * 2 ^ w.table.shared.key.sizes.bits) × (w.heads ≤ 262144) × (w.carried ≡ w.table.shared.key.carried) × (w.table.shared.key.carried.base + w.table.shared.key.sizes.log ≤ 2 ^ 34) };
+    ghost invariant = { λ w. (w.table.shared.table_id.words ≡ 1 + whole (areas w.table.shared.key)) × (w.table.shared.table_id.slots ≡ 0) × (w.sizes ≡ w.table.shared.key.sizes) × (w.table.shared.key.entries ≡ w.table.shared.key.sizes.entries) × (w.heads ≡ 4 * 2 ^ w.table.shared.key.sizes.bits) × (w.heads ≤ 262144) × (w.carried ≡ w.table.shared.key.carried) × (w.table.shared.key.carried.base + w.table.shared.key.sizes.log ≤ 2 ^ 34) × (length w.table.shared.key.carried.list ≤ w.table.shared.key.entries) };
 }
 
 /// One caller. Contracts see which table it is of, and what it knows.
@@ -71,6 +71,7 @@ impl Words {
     pub fn carried(&self) -> &Carried
         ensures carried { result.now ≡ self.now.1.carried }
         ensures ids { self.now.1.carried.base + self.now.1.sizes.log ≤ 2 ^ 34 }
+        ensures room { length self.now.1.carried.list ≤ self.now.1.entries }
     {
         &self.carried
     }
