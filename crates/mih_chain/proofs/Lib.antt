@@ -1,3 +1,4 @@
 mod Pushes
 mod WalkSteps
 mod Cuts
+mod Trials

@@ -8,7 +8,7 @@ use Rattle.reg_rule.specs.declared.view.Cursor.{Cursor}
 use Rattle.reg_rule.specs.declared.view.View.{View}
 use Rattle.reg_rule.specs.Links.{link_word}
 use Rattle.reg_rule.specs.Chains.{Once}
-use Rattle.reg_rule.specs.Moves.{TellsHits, first_met, none_met, next_met, walked}
+use Rattle.reg_rule.specs.Moves.{TellsHits, none_met, next_met, walked}
 use Rattle.reg_rule.specs.Steps.{HasWalked, HeadLoaded, NextLoaded, HeadTells, NextTells}
 
 -- the word names an entry, or nothing
@@ -42,16 +42,11 @@ module _ (told : Told) (walks : IsWalk told) (table bucket : ℕ) (v : View) (fo
   abbrev loaded : HeadLoaded told table bucket v found w
   loaded = head_walks told walks table bucket v found w tells
 
-  pub head_entry : found ≢ 0 → (e : ℕ) × (found ≡ link_word e) × (e < v.key.entries)
-  head_entry some = let t = loaded.comes_to some in (t.0, t.1, t.2)
-
-  pub head_ends : found ≡ 0 → (w ≡ none_met told v) × HasWalked table bucket w
-  head_ends none = let t = loaded.ends_at none in let is = same_view told walks (none_met told v) w t.0 in (is, subst (λ (z : View). HasWalked table bucket z) (sym is) t.1)
-
-  pub head_met : (e : ℕ) → found ≡ link_word e → (e < v.key.entries) × (w ≡ first_met told v table bucket e)
-  head_met e is =
-      let t = loaded.comes_to (not_none found e is) in let one = one_entry found t.0 e t.1 is in
-      (subst (λ (n : ℕ). n < v.key.entries) one t.2, same_view told walks (first_met told v table bucket t.0) w t.3 ∙ ap (first_met told v table bucket) one)
+  -- the bucket that was loaded is the one that is walked
+  pub head_ends : (walked : ℕ) → bucket ≡ walked → found ≡ 0 → (w ≡ none_met told v) × HasWalked table walked w
+  head_ends walked same none =
+      let t = loaded.ends_at none in let is = same_view told walks (none_met told v) w t.0 in
+      (is, subst (λ (b : ℕ). HasWalked table b w) same (subst (λ (z : View). HasWalked table bucket z) (sym is) t.1))
 
 module _ (table at : ℕ) (v : View) (found : ℕ) (w : View) (c : Cursor) (has : v.cursor ≡ Some c) (tells : NextTells Nothing table at v found w) where
   abbrev followed : NextLoaded Nothing c v found w

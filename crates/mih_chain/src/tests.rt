@@ -10,6 +10,8 @@ use reg_rule::{Pass, Told, Words, store_pin};
 use std::alloc::Global;
 use std::test::Fail;
 
+mod pushing;
+
 // A declaration of this body.
 fn declared(id: u64, body: u64) -> Result<Declared, Fail>
     ensures { IfOk result (λ declared. declared.id ≡ id) }

@@ -2,3 +2,5 @@ mod Logs
 mod Walks
 mod Turns
 mod Helped
+mod Trials
+mod TrialsWithdrawn

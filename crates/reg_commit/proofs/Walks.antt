@@ -7,11 +7,12 @@ use Rattle.reg_model.specs.declared.call.Call.{Call}
 use Rattle.reg_model.specs.declared.call.Call.TheVariants.{Declare, Withdraw, Near, Show, Count, After}
 use Rattle.reg_rule.specs.declared.told.Told.{Told}
 use Rattle.reg_rule.specs.declared.told.Told.TheVariants.{Nothing, Row, Opens, Closes, Begins, Links, Refuses, Hits, Examines, Sweeps, Ends}
+use Rattle.reg_rule.specs.declared.view.Holding.{Holding}
 use Rattle.reg_rule.specs.declared.view.Place.{Place}
 use Rattle.reg_rule.specs.declared.view.View.{View}
 use Rattle.reg_rule.specs.Conditions.{MayTellFront}
 use Rattle.reg_rule.specs.Moves.{with_step, either, at_front, at_seen, at_seen_accounts, is_stop, refused, passed, filled, again}
-use Rattle.reg_rule.specs.Log.{place_word}
+use Rattle.reg_rule.specs.Log.{place_word, IsWd}
 use Rattle.reg_rule.specs.declared.view.Key.{Key}
 use Rattle.reg_rule.specs.Steps.{LogLoaded, SeenFits}
 use Rattle.reg_commit.specs.Fronts.{MayWalk, walked_to, FrontFound}
@@ -138,6 +139,13 @@ one_load v places n = let made = loaded_more n v.made in λ j. record v { log = 
 one_place : (v : View) (places : List Place) (n : ℕ) (p : Place) → passed (walked_to v places n) 1 p ≡ walked_to v (places ++ p ∷ []) (n + 1)
 one_place v places n p = let log = append_assoc v.log places (p ∷ []) in let made = loaded_more n v.made in λ j. record v { log = log j; made = made j }
 
+-- all places are seen, so the holder of the sweep is no further than the log
+reached_all : (told : Told) (x w : View) (place found front : ℕ) → front ≡ x.key.sizes.log → length w.log ≡ front → LogLoaded told place x found w
+    → (h : Holding) → x.holding ≡ Some h → (h.place ≤ front) × (h.word.limbo ≡ true → h.paid ≡ false → (h.place < front) × ((id : ℕ) × (entry : ℕ) × IsWd w.log h.place id entry))
+reached_all told x w place found front is end loaded h has =
+    let most = loaded.most h has in let far = most.0 in
+    (omega arith, λ limbo unpaid. (let far = most.1 limbo unpaid in let inside : h.place < front = omega arith in (inside, loaded.limbo h has limbo unpaid (omega arith))))
+
 pub reloaded : (told : Told) (v w : View) (places found : ℕ) → places ≡ v.key.sizes.log → 1 ≤ places → v.key.sizes.log ≤ length v.log → LogLoaded told (places - 1) v found w → FrontFound told v places w
 reloaded told v w places found is one all loaded =
     let old = loaded.old (omega arith) in let room = loaded.seen.room in
@@ -153,6 +161,7 @@ reloaded told v w places found is one all loaded =
       view = old.3 ∙ (again_all told v full ∙ (ap (λ (z : View). at_front told z v.key.sizes.log) start ∙ ap (at_front told (walked_to v [] 1)) (sym is)));
       seen = loaded.seen;
       alone = λ lone. refl;
+      reached = reached_all told v w (places - 1) found places is (omega arith) loaded;
     }
 
 -- the next place was found empty
@@ -169,6 +178,11 @@ front_here told v x w place found (inl s) at low loaded none =
       view = loaded.empty at none ∙ ap (λ (z : View). at_front told z place) (ap (λ (z : View). with_step z 1) s.view ∙ one_load v s.places (length s.places));
       seen = subst (λ (k : Key). SeenFits k w.log) key loaded.seen;
       alone = s.alone;
+      reached = λ h has. (let here = ap (λ (z : View). z.holding) s.view ∙ has in let r = loaded.reached h here at none in (
+        r.0,
+        λ limbo unpaid. (
+            let inside = r.1 limbo unpaid in let end : length w.log ≡ length x.log = ap (λ (z : View). length z.log) (loaded.empty at none) in (inside, loaded.limbo h here limbo unpaid (omega arith))),
+      ));
     }
 front_here told v x w place found (inr s) at low loaded none = let all = s.0 in absurd (omega arith)
 
@@ -229,6 +243,7 @@ walks_on told v x w place found may (inl s) at low loaded some =
           view = next.2 ∙ (filled_last told x p still full ∙ (ap (λ (z : View). at_front told z x.key.sizes.log) grown ∙ ap (at_front told (walked_to v (s.places ++ p ∷ []) (length s.places + 1))) size));
           seen = subst (λ (k : Key). SeenFits k w.log) key loaded.seen;
           alone = lone;
+          reached = λ h has. reached_all told x w place found v.key.sizes.log (sym size) (ap (λ (z : View). length z.log) next.2 ∙ (full ∙ size)) loaded h (ap (λ (z : View). z.holding) s.view ∙ has);
         },
       )
 

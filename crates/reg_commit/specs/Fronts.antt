@@ -1,10 +1,12 @@
 -- The walk along the log to its front.
-use Rattle.std.specs.Prelude.{◌≡◌, ℕ, ◌+◌, ◌<◌, ◌≤◌, List, [], ◌++◌, length, replicate, None}
+use Rattle.std.specs.Prelude.{◌≡◌, ℕ, ◌+◌, ◌<◌, ◌≤◌, true, false, List, [], ◌++◌, length, replicate, None, Some}
 use Rattle.reg_model.specs.declared.call.Call.TheVariants as calls
 use Rattle.reg_rule.specs.declared.told.Told.{Told}
 use Rattle.reg_rule.specs.declared.told.Told.TheVariants.{Nothing, Row as RowOf, Opens}
+use Rattle.reg_rule.specs.declared.view.Holding.{Holding}
 use Rattle.reg_rule.specs.declared.view.Place.{Place}
 use Rattle.reg_rule.specs.declared.view.View.{View}
+use Rattle.reg_rule.specs.Log.{IsWd}
 use Rattle.reg_rule.specs.Moves.{at_front}
 use Rattle.reg_rule.specs.Steps.{SeenFits}
 
@@ -33,3 +35,5 @@ pub record FrontFound (told : Told) (v : View) (front : ℕ) (w : View) : Type 0
   pub seen : SeenFits v.key w.log
   -- one caller has seen all that there is
   pub alone : v.key.sizes.callers ≡ 1 → places ≡ []
+  -- the holder of the sweep is no further than the front, and what is in limbo is a withdrawal
+  pub reached : (h : Holding) → v.holding ≡ Some h → (h.place ≤ front) × (h.word.limbo ≡ true → h.paid ≡ false → (h.place < front) × ((id : ℕ) × (entry : ℕ) × IsWd w.log h.place id entry))

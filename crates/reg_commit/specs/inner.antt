@@ -2,3 +2,4 @@
 pub mod Walking
 pub mod Kinds
 pub mod Turns
+pub mod Trials

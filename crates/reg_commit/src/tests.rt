@@ -9,6 +9,10 @@ use reg_rule::{Pass, Words};
 use std::alloc::Global;
 use std::test::Fail;
 
+mod declaring;
+mod racing;
+mod withdrawing;
+
 // A round of two callers, in which nothing is carried.
 fn begins(alloc: Global, entries: u32, log: u32) -> Result<(Words, Pass, Pass), Fail>
     ensures words { IfOk result (λ r. r.0.1 ≡ two_callers entries log) }

@@ -6,7 +6,7 @@ ghost use Rattle.reg_rule.specs.Log.{place_of, place_word, record_at};
 ghost use Rattle.reg_rule.specs.Helping.{HasHelped};
 ghost use Rattle.reg_rule.specs.Conditions.{MayCommit};
 ghost use Rattle.reg_rule.specs.Moves.{committed, passed};
-ghost use Rattle.reg_rule.specs.Steps.{SeenFits};
+ghost use Rattle.reg_rule.specs.Steps.{SeenFits, RowsServed};
 ghost use Rattle.reg_rule.specs.Rounds.{IsWordsPass};
 
 use reg_model::Update;
@@ -39,6 +39,7 @@ pub fn commit(
     ensures won { IfOk result (λ _. pass.new ≡ (words.now.0, committed pass.old.1 (place_of update.now entry))) }
     ensures lost { IfErr result (λ lost. (lost.found ≢ 0) × ((q : Place) × (lost.found ≡ place_word pass.old.1.key.carried.base place q) × (pass.new ≡ (words.now.0, passed pass.old.1 2 q)))) }
     ensures seen { SeenFits pass.old.1.key pass.new.1.log }
+    ensures rows { RowsServed pass.new.1 }
 {
     let word = match *update {
         Update::Decl(unit) => LogWord::Decl {
