@@ -1,0 +1,14 @@
+mod Leaves
+mod Arrives
+mod Passing
+mod Resumes
+mod Seizes
+mod Goes
+mod Scans
+mod SeenPlaces
+mod Ranges
+mod Givebacks
+mod Deaths
+mod Unlinks
+mod Reclaims
+mod PlaceTurns

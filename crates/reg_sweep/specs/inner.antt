@@ -1,0 +1,4 @@
+-- What only proofs and private contracts use.
+pub mod Holders
+pub mod Going
+pub mod Turns
