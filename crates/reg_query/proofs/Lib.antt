@@ -1,0 +1,11 @@
+mod Begins
+mod Listed
+mod Stamps
+mod Places
+mod Looking
+mod Asking
+mod Walking
+mod Planning
+mod Shown
+mod Members
+mod Exactly
