@@ -8,7 +8,8 @@ use Rattle.reg_rule.specs.declared.told.Told.TheVariants.{Nothing, Opens}
 use Rattle.reg_rule.specs.declared.view.Place.{Place}
 use Rattle.reg_rule.specs.declared.view.View.{View}
 use Rattle.reg_rule.specs.Helping.{helped_up_to}
-use Rattle.reg_rule.specs.Moves.{pinned, at_seen_accounts}
+use Rattle.reg_rule.specs.declared.view.Holding.{Holding}
+use Rattle.reg_rule.specs.Moves.{pinned, at_seen_accounts, marked_at}
 use Rattle.reg_commit.specs.Fronts.{FrontFound}
 use Rattle.reg_commit.specs.Helps.{help_steps}
 use Rattle.reg_query.specs.Snapshots.{IsCompleted, Begun, is_look, is_log_load}
@@ -54,6 +55,10 @@ same_accounts true u s = refl
 same_accounts false u None = refl
 same_accounts false u (Some k) = refl
 
+still_none : (b : Bool) (h : Option Holding) (n : ℕ) → h ≡ None → cond b (marked_at h n) h ≡ None
+still_none true h n e = ap (λ (o : Option Holding). marked_at o n) e
+still_none false h n e = e
+
 -- what the front leaves
 module _ (v u : View) (k : ℕ) (f : FrontFound Opens (pinned v) k u) where
   pub front_log : u.log ≡ v.log ++ f.places
@@ -96,6 +101,12 @@ module _ (v u : View) (k : ℕ) (f : FrontFound Opens (pinned v) k u) where
           later = (let e = f.front_is in omega arith);
           accounts = ap (λ (z : View). z.accounts) (same ∙ f.view);
           costs = ap (λ (z : View). z.costs) (same ∙ f.view);
+          pin = ap (λ (z : View). z.pin) (same ∙ f.view);
+          hands = ap (λ (z : View). z.hands) (same ∙ f.view);
+          committed = ap (λ (z : View). z.committed) (same ∙ f.view);
+          taking = (ap (λ (z : View). z.taking) (same ∙ f.view), ap (λ (z : View). z.empty) (same ∙ f.view));
+          sweeps = (ap (λ (z : View). z.sweeps) (same ∙ f.view), ap (λ (z : View). z.stopped) (same ∙ f.view), ap (λ (z : View). z.last_word) (same ∙ f.view));
+          holding = (λ e. ap (λ (z : View). z.holding) (same ∙ f.view) ∙ ap (λ (o : Option Holding). marked_at o k) e);
           steps = 17 ∷ replicate f.loads 1;
           made = here;
           loads = (let a = all_loads f.loads in let b = f.few in let c = f.front_is in omega arith);
@@ -122,6 +133,12 @@ module _ (v u : View) (k : ℕ) (f : FrontFound Opens (pinned v) k u) where
           later = (let e = f.front_is in omega arith);
           accounts = ap (λ (z : View). z.accounts) h.2 ∙ (same_accounts (length u.log == u.key.sizes.log) u u.snapshot ∙ ap (λ (z : View). z.accounts) f.view);
           costs = ap (λ (z : View). z.costs) h.2 ∙ ap (λ (z : View). z.costs) f.view;
+          pin = ap (λ (z : View). z.pin) h.2 ∙ ap (λ (z : View). z.pin) f.view;
+          hands = ap (λ (z : View). z.hands) h.2 ∙ ap (λ (z : View). z.hands) f.view;
+          committed = ap (λ (z : View). z.committed) h.2 ∙ ap (λ (z : View). z.committed) f.view;
+          taking = (ap (λ (z : View). z.taking) h.2 ∙ ap (λ (z : View). z.taking) f.view, ap (λ (z : View). z.empty) h.2 ∙ ap (λ (z : View). z.empty) f.view);
+          sweeps = (ap (λ (z : View). z.sweeps) h.2 ∙ ap (λ (z : View). z.sweeps) f.view, ap (λ (z : View). z.stopped) h.2 ∙ ap (λ (z : View). z.stopped) f.view, ap (λ (z : View). z.last_word) h.2 ∙ ap (λ (z : View). z.last_word) f.view);
+          holding = (λ e. ap (λ (z : View). z.holding) h.2 ∙ still_none (length u.log == u.key.sizes.log) u.holding u.key.sizes.log (ap (λ (z : View). z.holding) f.view ∙ ap (λ (o : Option Holding). marked_at o k) e));
           steps = 17 ∷ (replicate f.loads 1 ++ (1 ∷ help));
           made = ap (λ (z : View). z.made) h.2 ∙ (ap (λ (l : List ℕ). (l ++ 1 ∷ []) ++ help) made_so ∙ more_steps v.made (replicate f.loads 1) help);
           loads = (let a = all_loads f.loads in let b = f.few in let c = f.front_is in let d = help_loads u.key.carried.base p.update in let e = count_append is_log_load (replicate f.loads 1) (1 ∷ help) in let x = count_cons is_log_load 17 (replicate f.loads 1 ++ (1 ∷ help)) in let y = count_cons is_log_load 1 help in let g = front_length in let l = ap (λ (l : List Place). length l) log in omega arith);

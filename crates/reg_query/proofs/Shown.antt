@@ -207,8 +207,8 @@ module _ (v : View) (k id : ℕ) (told : Told) (tells : Telling id told) (opens 
 
   shown_by : (w : View) (x : Option Declared) (unit : Option Unit64) (places : List Place) (front : Option ℕ) (holding : Option Holding) (found : Option Found) (met : List Met) (steps : List ℕ)
       → w ≡ answered places front holding found met steps → live_at v.key.carried (log_at v k) id ≡ x → unit ≡ option_map (λ (d : Declared). d.unit) x → length places ≤ 1 → (v.holding ≡ None → holding ≡ None)
-      → count_by is_log_load steps ≡ 1 → count_by is_look steps ≤ 2 → ShownAt told v k id unit w
-  shown_by w x unit places front holding found met steps is live same few none loads looks = record {
+      → count_by is_log_load steps ≡ 1 → length steps ≡ count_by is_log_load steps + count_by is_look steps → count_by is_look steps ≤ 2 → ShownAt told v k id unit w
+  shown_by w x unit places front holding found met steps is live same few none loads only looks = record {
     unit_is = same ∙ ap (option_map (λ (d : Declared). d.unit)) (sym live);
     opens = subst (λ (z : View). IsOpenAt z k) (sym is) (record { snapshot = opens.snapshot; pinned = opens.pinned; helped = opens.helped; inside = (let l = length-append v.log places in let i = opens.inside in omega arith); within = opens.within });
     places = places;
@@ -217,6 +217,7 @@ module _ (v : View) (k id : ℕ) (told : Told) (tells : Telling id told) (opens 
     view = is ∙ (λ j. answered places (ap (λ (z : View). z.front) (sym is) j) (ap (λ (z : View). z.holding) (sym is) j) (ap (λ (z : View). z.found) (sym is) j) (ap (λ (z : View). z.met) (sym is) j) steps);
     holding = λ e. ap (λ (z : View). z.holding) is ∙ none e;
     loads = loads;
+    only = only;
     looks = looks;
   }
 
@@ -230,7 +231,7 @@ module _ (v : View) (k id : ℕ) (told : Told) (tells : Telling id told) (opens 
         let rows = front_decides false (undeclared_so v k id ok none) ∙ the_row v k id told None tells live in
         shown_by w None None s.places w.front w.holding v.found v.met (1 ∷ [])
         (s.view ∙ (λ j. record v { log = v.log ++ s.places; front = w.front; holding = w.holding; accounts = rows j; made = v.made ++ 1 ∷ [] }))
-        live refl s.few s.holding refl (omega arith)
+        live refl s.few s.holding refl refl (omega arith)
 
     abbrev sought : View
     sought = moved v k id (v.log ++ s.places) w.front w.holding v.found v.met (v.made ++ 1 ∷ [])
@@ -262,7 +263,7 @@ module _ (v : View) (k id : ℕ) (told : Told) (tells : Telling id told) (opens 
             let rows = the_row v k id told None tells live in
             shown_by x None None s.places w.front w.holding x.found x.met (1 ∷ 7 ∷ [])
             (looked_is None live ∙ (λ j. record v { log = v.log ++ s.places; front = w.front; holding = w.holding; found = x.found; met = x.met; accounts = rows j; made = append_assoc v.made (1 ∷ []) (7 ∷ []) j }))
-            live refl s.few s.holding refl (omega arith)
+            live refl s.few s.holding refl refl (omega arith)
 
         module _ (kind body : ℕ) (y : View) (shows : IsLiveKind w k id entry (Some kind)) (code : CodeLoaded told entry x body y) where
           live_so : IsLiveIn v.key.carried (take k v.log) id shows.0 entry
@@ -297,7 +298,7 @@ module _ (v : View) (k id : ℕ) (told : Told) (tells : Telling id told) (opens 
           shown_live = let rows = the_row v k id told _ tells live_is in
               shown_by y (Some (record { id = id; unit = shows.0 })) (Some (record { kind = kind; body = body })) s.places w.front w.holding x.found x.met (1 ∷ 7 ∷ 3 ∷ [])
               (coded_is ∙ (λ j. record v { log = v.log ++ s.places; front = w.front; holding = w.holding; found = x.found; met = x.met; accounts = rows j; made = three v.made j }))
-              live_is (ap Some (λ j. record { kind = shows.2 j; body = body_is j })) s.few s.holding refl (omega arith)
+              live_is (ap Some (λ j. record { kind = shows.2 j; body = body_is j })) s.few s.holding refl refl (omega arith)
             where
               three : (made : List ℕ) → ((made ++ 1 ∷ []) ++ 7 ∷ []) ++ 3 ∷ [] ≡ made ++ (1 ∷ 7 ∷ 3 ∷ [])
               three made = append_assoc (made ++ 1 ∷ []) (7 ∷ []) (3 ∷ []) ∙ append_assoc made (1 ∷ []) (7 ∷ 3 ∷ [])

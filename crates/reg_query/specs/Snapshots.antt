@@ -50,6 +50,13 @@ pub record Begun (v : View) (k : ℕ) (w : View) : Type 0 where
   pub later : length v.log ≤ k
   pub accounts : w.accounts ≡ v.accounts
   pub costs : w.costs ≡ v.costs
+  -- what stands in the words for the seat, and what it holds, is as it was
+  pub pin : w.pin ≡ length v.log + 1
+  pub hands : w.hands ≡ v.hands
+  pub committed : w.committed ≡ v.committed
+  pub taking : (w.taking ≡ v.taking) × (w.empty ≡ v.empty)
+  pub sweeps : (w.sweeps ≡ v.sweeps) × (w.stopped ≡ v.stopped) × (w.last_word ≡ v.last_word)
+  pub holding : v.holding ≡ None → w.holding ≡ None
   -- the loads of the log are three more at most than the places newly seen, and there are two looks at most
   pub steps : List ℕ
   pub made : w.made ≡ v.made ++ steps
@@ -89,4 +96,5 @@ pub record ShownAt (told : Told) (v : View) (k id : ℕ) (unit : Option Unit64) 
   pub holding : v.holding ≡ None → w.holding ≡ None
   -- one load of the log, and two looks at most
   pub loads : count_by is_log_load steps ≡ 1
+  pub only : length steps ≡ count_by is_log_load steps + count_by is_look steps
   pub looks : count_by is_look steps ≤ 2

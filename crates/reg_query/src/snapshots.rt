@@ -43,7 +43,7 @@ fn complete(words: &Words, pass: &mut Pass, place: u32)
 pub fn end(words: &Words, pass: &mut Pass)
     requires own { IsWordsPass words.now pass.old }
     requires opens { IsOpen pass.old.1 }
-    ensures { pass.new ≡ (words.now.0, unpinned Closes pass.old.1) }
+    ensures closed { pass.new ≡ (words.now.0, unpinned Closes pass.old.1) }
 {
     store_pin(words, pass, 0, Told::Closes);
 }

@@ -1,5 +1,6 @@
-use Rattle.std.proofs.Common.{ℕ, List, [], ◌∷◌, ◌++◌, length, sym, subst, arith}
+use Rattle.std.proofs.Common.{◌≡◌, ℕ, List, [], ◌∷◌, ◌++◌, length, sym, subst, arith}
 use Rattle.mih_plan.specs.declared.probe.Probe.{Probe}
+use Rattle.mih_plan.specs.Buckets.{plan}
 use Rattle.reg_rule.specs.declared.told.Told.TheVariants.{Nothing}
 use Rattle.reg_query.specs.inner.Walks.{Walked, IsWalkingPlan}
 use Rattle.reg_query.proofs.Planning.{starts_plan, plan_probe, plan_goes_on, heads_then, heads_fit, plan_ends, plan_room, distance_self}
@@ -8,7 +9,8 @@ use Rattle.reg_query.proofs.near.walk_plan.Goals as goal
 pub loop-probe-init : goal.loop-probe-init
 loop-probe-init c = record {
   own = c.requires.own;
-  walking = starts_plan c.args.query.now c.args.pass.now.1 c.of-probes.result c.args.listing.now.hits.items c.args.listing.now.looked c.of-probes.ensures.all c.requires.none c.requires.first;
+  walking = starts_plan c.args.query.now c.args.pass.now.1 c.of-probes.result c.args.listing.now.hits.items c.args.listing.now.looked
+      (subst (λ (r : ℕ). c.of-probes.result ≡ plan c.args.query.now.unit.body r c.args.query.now.bits) (omega arith) c.of-probes.ensures.all) c.requires.none c.requires.first;
 }
 
 pub walk_bucket-requires-clause-table : goal.walk_bucket-requires-clause-table
