@@ -12,3 +12,5 @@ mod Deaths
 mod Unlinks
 mod Reclaims
 mod PlaceTurns
+mod Trials
+mod TrialsLimbo

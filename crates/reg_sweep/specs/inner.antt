@@ -2,3 +2,4 @@
 pub mod Holders
 pub mod Going
 pub mod Turns
+pub mod Trials

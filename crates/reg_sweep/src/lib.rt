@@ -11,3 +11,6 @@ mod seizing;
 mod sweeping;
 
 pub use sweeping::sweep;
+
+#[cfg(test)]
+mod tests;
