@@ -82,6 +82,9 @@ module _ (v u : View) (k : ℕ) (f : FrontFound Opens (pinned v) k u) where
   made_so : u.made ≡ (v.made ++ 17 ∷ []) ++ replicate f.loads 1
   made_so = ap (λ (z : View). z.made) f.view
 
+  one_caller : v.key.sizes.callers ≡ 1 → k ≡ length v.log
+  one_caller single = let none = ap length (f.alone single) in let e = f.front_is in omega arith
+
   joined : (made rest : List ℕ) → (made ++ 17 ∷ []) ++ rest ≡ made ++ (17 ∷ rest)
   joined made rest = append_assoc made (17 ∷ []) rest
 
@@ -99,6 +102,9 @@ module _ (v u : View) (k : ℕ) (f : FrontFound Opens (pinned v) k u) where
             within = subst (λ (z : View). k ≤ z.key.sizes.log) (sym same) front_room;
           };
           later = (let e = f.front_is in omega arith);
+          seen = ap (λ (z : View). length z.log) same ∙ front_length;
+          alone = one_caller;
+          kept = λ n low h. ap (λ (z : View). helped_up_to z.helped n) (same ∙ f.view) ∙ h;
           accounts = ap (λ (z : View). z.accounts) (same ∙ f.view);
           costs = ap (λ (z : View). z.costs) (same ∙ f.view);
           pin = ap (λ (z : View). z.pin) (same ∙ f.view);
@@ -131,6 +137,9 @@ module _ (v u : View) (k : ℕ) (f : FrontFound Opens (pinned v) k u) where
             within = subst (λ (z : View). k ≤ z.key.sizes.log) (sym h.2) front_room;
           };
           later = (let e = f.front_is in omega arith);
+          seen = ap length log ∙ front_length;
+          alone = one_caller;
+          kept = λ m low before. ap (λ (z : View). helped_up_to z.helped m) h.2 ∙ le-leb m (n + 1) (let e = f.front_is in omega arith);
           accounts = ap (λ (z : View). z.accounts) h.2 ∙ (same_accounts (length u.log == u.key.sizes.log) u u.snapshot ∙ ap (λ (z : View). z.accounts) f.view);
           costs = ap (λ (z : View). z.costs) h.2 ∙ ap (λ (z : View). z.costs) f.view;
           pin = ap (λ (z : View). z.pin) h.2 ∙ ap (λ (z : View). z.pin) f.view;

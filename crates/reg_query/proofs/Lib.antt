@@ -9,3 +9,4 @@ mod Planning
 mod Shown
 mod Members
 mod Exactly
+mod Seeking

@@ -1,5 +1,5 @@
 -- What is shown of an id at a snapshot: its declaration in the log, its stamp, its body, and the row.
-use Rattle.std.proofs.Common.{◌≡◌, ℕ, zero, suc, ◌+◌, ◌<◌, ◌≤◌, ◌==◌, ◌&&◌, ◌||◌, ◌⊎◌, inl, inr, ⊎_elim, Bool, true, false, cond, nat_le, List, [], ◌∷◌, ◌++◌, append_assoc, length, length-append, take, count_by, Option, None, Some, IfSome, IfNone, option_map, find, refl, sym, ap, ◌∙◌, subst, arith, eq-eqb}
+use Rattle.std.proofs.Common.{◌≡◌, ℕ, zero, suc, ◌+◌, ◌<◌, ◌≤◌, ◌==◌, ◌&&◌, ◌||◌, inl, inr, ⊎_elim, Bool, true, false, cond, nat_le, List, [], ◌∷◌, ◌++◌, append_assoc, length, length-append, take, count_by, Option, None, Some, IfSome, IfNone, option_map, find, refl, sym, ap, ◌∙◌, subst, arith, eq-eqb}
 use Rattle.std.specs.List.{list_any}
 use Rattle.std.proofs.lemmas.Bool.{eqb-true, leb-true, le-leb, and_from, and_parts}
 use mathlib.Core.Option.{some, some-ne-none}
@@ -19,7 +19,6 @@ use Rattle.reg_model.proofs.Rising.{IsAt}
 use Rattle.reg_words.specs.declared.word.StampWord.{StampWord}
 use Rattle.reg_words.specs.declared.word.StampWord.TheVariants.{Unborn, Live, Dead}
 use Rattle.reg_rule.specs.declared.told.Told.{Told}
-use Rattle.reg_rule.specs.declared.told.Told.TheVariants.{Nothing, Row as RowOf}
 use Rattle.reg_rule.specs.declared.view.Account.{Account}
 use Rattle.reg_rule.specs.declared.view.Found.{Found}
 use Rattle.reg_rule.specs.declared.view.Holding.{Holding}
@@ -33,11 +32,8 @@ use Rattle.reg_rule.proofs.Bridge.{find_some, live_listed, listed_live}
 use Rattle.reg_rule.proofs.Costs.{listed, of_list}
 use Rattle.reg_query.specs.Snapshots.{declared_entry, IsOpenAt, ShownAt, shown_accounts, is_look, is_log_load}
 use Rattle.reg_query.specs.inner.Showing.{Sought, LookedFor, IsDeclaredIn, IsLiveKind, kind_shown}
+use Rattle.reg_query.proofs.Seeking.{Telling}
 use Rattle.reg_query.proofs.Places.{at_same, at_inside, take_at, at_below, length_take, take_append, declares_once, declares_more, declared_below, live_kept, carried_below}
-
--- a row of showing the id, or none
-abbrev pub Telling : ℕ → Told → Type 0
-Telling id told = (told ≡ Nothing) ⊎ (told ≡ RowOf (Show id))
 
 -- ---- where the id is declared
 
@@ -206,13 +202,15 @@ module _ (v : View) (k id : ℕ) (told : Told) (tells : Telling id told) (opens 
   answered places front holding found met steps = record v { log = v.log ++ places; front = front; holding = holding; found = found; met = met; accounts = shown_accounts told v k id; made = v.made ++ steps }
 
   shown_by : (w : View) (x : Option Declared) (unit : Option Unit64) (places : List Place) (front : Option ℕ) (holding : Option Holding) (found : Option Found) (met : List Met) (steps : List ℕ)
-      → w ≡ answered places front holding found met steps → live_at v.key.carried (log_at v k) id ≡ x → unit ≡ option_map (λ (d : Declared). d.unit) x → length places ≤ 1 → (v.holding ≡ None → holding ≡ None)
+      → w ≡ answered places front holding found met steps → live_at v.key.carried (log_at v k) id ≡ x → unit ≡ option_map (λ (d : Declared). d.unit) x → length places ≤ 1 → length (v.log ++ places) ≤ v.key.sizes.log → (v.key.sizes.callers ≡ 1 → places ≡ []) → (v.holding ≡ None → holding ≡ None)
       → count_by is_log_load steps ≡ 1 → length steps ≡ count_by is_log_load steps + count_by is_look steps → count_by is_look steps ≤ 2 → ShownAt told v k id unit w
-  shown_by w x unit places front holding found met steps is live same few none loads only looks = record {
+  shown_by w x unit places front holding found met steps is live same few room alone none loads only looks = record {
     unit_is = same ∙ ap (option_map (λ (d : Declared). d.unit)) (sym live);
     opens = subst (λ (z : View). IsOpenAt z k) (sym is) (record { snapshot = opens.snapshot; pinned = opens.pinned; helped = opens.helped; inside = (let l = length-append v.log places in let i = opens.inside in omega arith); within = opens.within });
     places = places;
     few = few;
+    room = room;
+    alone = alone;
     steps = steps;
     view = is ∙ (λ j. answered places (ap (λ (z : View). z.front) (sym is) j) (ap (λ (z : View). z.holding) (sym is) j) (ap (λ (z : View). z.found) (sym is) j) (ap (λ (z : View). z.met) (sym is) j) steps);
     holding = λ e. ap (λ (z : View). z.holding) is ∙ none e;
@@ -231,7 +229,7 @@ module _ (v : View) (k id : ℕ) (told : Told) (tells : Telling id told) (opens 
         let rows = front_decides false (undeclared_so v k id ok none) ∙ the_row v k id told None tells live in
         shown_by w None None s.places w.front w.holding v.found v.met (1 ∷ [])
         (s.view ∙ (λ j. record v { log = v.log ++ s.places; front = w.front; holding = w.holding; accounts = rows j; made = v.made ++ 1 ∷ [] }))
-        live refl s.few s.holding refl refl (omega arith)
+        live refl s.few s.room s.alone s.holding refl refl (omega arith)
 
     abbrev sought : View
     sought = moved v k id (v.log ++ s.places) w.front w.holding v.found v.met (v.made ++ 1 ∷ [])
@@ -263,7 +261,7 @@ module _ (v : View) (k id : ℕ) (told : Told) (tells : Telling id told) (opens 
             let rows = the_row v k id told None tells live in
             shown_by x None None s.places w.front w.holding x.found x.met (1 ∷ 7 ∷ [])
             (looked_is None live ∙ (λ j. record v { log = v.log ++ s.places; front = w.front; holding = w.holding; found = x.found; met = x.met; accounts = rows j; made = append_assoc v.made (1 ∷ []) (7 ∷ []) j }))
-            live refl s.few s.holding refl refl (omega arith)
+            live refl s.few s.room s.alone s.holding refl refl (omega arith)
 
         module _ (kind body : ℕ) (y : View) (shows : IsLiveKind w k id entry (Some kind)) (code : CodeLoaded told entry x body y) where
           live_so : IsLiveIn v.key.carried (take k v.log) id shows.0 entry
@@ -298,7 +296,7 @@ module _ (v : View) (k id : ℕ) (told : Told) (tells : Telling id told) (opens 
           shown_live = let rows = the_row v k id told _ tells live_is in
               shown_by y (Some (record { id = id; unit = shows.0 })) (Some (record { kind = kind; body = body })) s.places w.front w.holding x.found x.met (1 ∷ 7 ∷ 3 ∷ [])
               (coded_is ∙ (λ j. record v { log = v.log ++ s.places; front = w.front; holding = w.holding; found = x.found; met = x.met; accounts = rows j; made = three v.made j }))
-              live_is (ap Some (λ j. record { kind = shows.2 j; body = body_is j })) s.few s.holding refl refl (omega arith)
+              live_is (ap Some (λ j. record { kind = shows.2 j; body = body_is j })) s.few s.room s.alone s.holding refl refl (omega arith)
             where
               three : (made : List ℕ) → ((made ++ 1 ∷ []) ++ 7 ∷ []) ++ 3 ∷ [] ≡ made ++ (1 ∷ 7 ∷ 3 ∷ [])
               three made = append_assoc (made ++ 1 ∷ []) (7 ∷ []) (3 ∷ []) ∙ append_assoc made (1 ∷ []) (7 ∷ 3 ∷ [])

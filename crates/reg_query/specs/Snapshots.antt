@@ -1,5 +1,5 @@
 -- Snapshots: how one is opened, what keeps it open, and what is shown at it.
-use Rattle.std.specs.Prelude.{◌≡◌, ℕ, ◌+◌, ◌<◌, ◌≤◌, ◌==◌, ◌||◌, Bool, List, ◌++◌, length, count_by, Option, None, Some, option_map}
+use Rattle.std.specs.Prelude.{◌≡◌, ℕ, ◌+◌, ◌<◌, ◌≤◌, ◌==◌, ◌||◌, Bool, List, [], ◌++◌, length, count_by, Option, None, Some, option_map}
 use Rattle.iscc_header.specs.declared.unit.Unit64.{Unit64}
 use Rattle.reg_model.specs.declared.update.Declared.{Declared}
 use Rattle.reg_model.specs.declared.call.Call.TheVariants as calls
@@ -48,6 +48,11 @@ pub record Begun (v : View) (k : ℕ) (w : View) : Type 0 where
   -- so it is open there, no earlier than what the pass had seen, and no row was made
   pub opens : IsOpenAt w k
   pub later : length v.log ≤ k
+  -- at the end of what the pass has seen then; one caller has seen all that there is
+  pub seen : length w.log ≡ k
+  pub alone : v.key.sizes.callers ≡ 1 → k ≡ length v.log
+  -- what the pass had helped, it has helped
+  pub kept : (n : ℕ) → n ≤ length v.log → HasHelped v n → HasHelped w n
   pub accounts : w.accounts ≡ v.accounts
   pub costs : w.costs ≡ v.costs
   -- what stands in the words for the seat, and what it holds, is as it was
@@ -81,6 +86,9 @@ pub record ShownAt (told : Told) (v : View) (k id : ℕ) (unit : Option Unit64) 
   pub opens : IsOpenAt w k
   pub places : List Place
   pub few : length places ≤ 1
+  pub room : length (v.log ++ places) ≤ v.key.sizes.log
+  -- one caller has seen all that there is
+  pub alone : v.key.sizes.callers ≡ 1 → places ≡ []
   pub steps : List ℕ
   -- the rest of the view is as it was
   pub view : w ≡ record v {

@@ -1,8 +1,6 @@
 -- Finding the declaration with an id, step by step.
 use Rattle.std.specs.Prelude.{◌≡◌, ℕ, ◌≤◌, ◌==◌, ◌&&◌, nat_le, cond, List, [], ◌∷◌, ◌++◌, length, take, Option, None, Some}
 use Rattle.iscc_header.specs.declared.unit.Unit64.{Unit64}
-use Rattle.reg_words.specs.declared.word.LogWord.{LogWord}
-use Rattle.reg_words.specs.declared.word.LogWord.TheVariants as records
 use Rattle.reg_words.specs.declared.word.StampWord.{StampWord}
 use Rattle.reg_words.specs.declared.word.StampWord.TheVariants.{Unborn, Live, Dead}
 use Rattle.reg_rule.specs.declared.told.Told.{Told}
@@ -30,6 +28,8 @@ kind_shown place id (Dead kind found death) = cond ((found == id) && nat_le plac
 pub record Sought (told : Told) (v : View) (k id : ℕ) (w : View) : Type 0 where
   pub places : List Place
   pub few : length places ≤ 1
+  pub room : length (v.log ++ places) ≤ v.key.sizes.log
+  pub alone : v.key.sizes.callers ≡ 1 → places ≡ []
   pub view : w ≡ record v {
     log = v.log ++ places;
     front = w.front;

@@ -5,6 +5,7 @@ use Rattle.reg_rule.specs.declared.view.Key.{Key}
 use Rattle.reg_rule.specs.declared.view.Place.{Place}
 use Rattle.reg_rule.specs.declared.view.View.{View}
 use Rattle.reg_rule.specs.Log.{At, record_at}
+use Rattle.reg_query.proofs.Seeking.{sought_at}
 use Rattle.reg_query.proofs.Shown.{placed, outside, declared_is, carried_inside}
 use Rattle.reg_query.proofs.showing.declared_in.Goals.{else-id-base-via-then-id-base+else-id-base-2, else-id-base-via-else-id-base}
 use Rattle.reg_query.proofs.showing.declared_in.Goals as goal
@@ -18,6 +19,9 @@ returns-then-id-base-2-clause-entry c =
     let l = c.load_log.ensures.told in let o = l.old (omega arith) in let p : Place = o.0 in
     let fits = l.seen.records n p (subst (λ (places : List Place). At places n p) (sym (ap (λ (z : View). z.log) o.3)) o.1) in
     declared_is v k c.args.id c.record_entry.result (placed v.key.carried v.log k c.args.id n p low is c.requires.opening o.1 c.record_entry.result (c.record_entry.ensures (record_at v.key.carried.base n p.update p.entry) fits (sym o.2)))
+
+pub returns-clause-moved : goal.returns-clause-moved
+returns-clause-moved c = sought_at c.args.pass.now.1 c.args.place c.args.id c.requires.opens.snapshot c.args.told.now c.requires.telling c.load_log-2.new.pass.1 0 c.load_log-2.result c.requires.opens.inside (omega arith) c.load_log-2.ensures.told
 
 pub returns-clause-entry : goal.returns-clause-entry
 returns-clause-entry c =

@@ -1,4 +1,4 @@
-use Rattle.std.proofs.Common.{◌∙◌, sym, arith}
+use Rattle.std.proofs.Common.{arith}
 use Rattle.std.proofs.lemmas.Bool.{iff_false}
 use Rattle.reg_query.proofs.Stamps.{other_kind, no_id, late_id, dead_before, shows_id}
 use Rattle.reg_query.proofs.query.Query.live_id.Goals as goal

@@ -1,0 +1,12 @@
+mod Publishing
+mod Entering
+mod Declares
+mod Finding
+mod Ending
+mod Withdraws
+mod Emptied
+mod Refusing
+mod FrontRows
+mod Counting
+mod AtSnapshots
+mod NewPasses
