@@ -115,3 +115,15 @@ reached v w place point r f one unopened is =
     answered_there v w place (AfterOf point) f one unopened r (ap Some (sym is)) (by r) (is ∙ ap (λ (n : ℕ). cond (nat_le point (v.key.carried.base + n)) Reached Ahead) (sym long)) where
       by : (x : Reply) → is_accepted (next_row v (AfterOf point) place x) ≡ false
       by x = refl
+
+-- ---- what the caller is told
+
+-- an answer, by the key of the words, the pass that is left, and the point as it is reckoned
+pub told_so : (key : Key) (v w x : View) (call : Call) (places point : ℕ) (r : Reply) → v.key ≡ key → x ≡ w → point ≡ key.carried.base + places
+    → Answered v.key.sizes v.key.carried (pass_view v) (pass_view w) call (record { point = v.key.carried.base + places; reply = r }) → Answered key.sizes key.carried (pass_view v) (pass_view x) call (record { point = point; reply = r })
+told_so key v w x call places point r own same at is =
+    let base : v.key.carried.base ≡ key.carried.base = ap (λ (k : Key). k.carried.base) own in
+    let there : v.key.carried.base + places ≡ point = omega arith in
+    subst (λ (y : View). Answered key.sizes key.carried (pass_view v) (pass_view y) call (record { point = point; reply = r })) (sym same)
+    (subst (λ (k : Key). Answered k.sizes k.carried (pass_view v) (pass_view w) call (record { point = point; reply = r })) own
+    (subst (λ (n : ℕ). Answered v.key.sizes v.key.carried (pass_view v) (pass_view w) call (record { point = n; reply = r })) there is))

@@ -11,6 +11,8 @@ use reg_rule::Pass;
 use std::alloc::Global;
 use std::test::Fail;
 
+mod carried;
+
 fn meta(body: u64) -> Result<Unit64, Fail> {
     let kind = Kind::of(MainType::Meta, 0).ok_or("no kind")?;
     Ok(Unit64 { kind, body })

@@ -1,6 +1,5 @@
-use Rattle.std.proofs.Common.{◌≡◌, ℕ, ◌++◌, refl, ap, sym, ◌∙◌, subst, arith}
+use Rattle.std.proofs.Common.{◌≡◌, ◌++◌, refl, ap, sym, ◌∙◌, subst, arith}
 use Rattle.atomic_table.specs.Seated.{TableId}
-use Rattle.reg_model.specs.Desks.{Answered}
 use Rattle.reg_model.specs.Live.{live}
 use Rattle.reg_model.specs.Replies.{AreHits}
 use Rattle.reg_model.specs.declared.call.Call.TheVariants.{Near}
@@ -9,10 +8,9 @@ use Rattle.reg_rule.specs.declared.told.Told.TheVariants.{Closes}
 use Rattle.reg_rule.specs.declared.view.Key.{Key}
 use Rattle.reg_rule.specs.declared.view.View.{View}
 use Rattle.reg_rule.specs.Moves.{log_at, unpinned}
-use Rattle.reg_rule.specs.Passes.{pass_view}
 use Rattle.reg_query.specs.Snapshots.{IsOpen}
 use Rattle.reg_free.specs.Fit.{IsFit}
-use Rattle.reg_free.proofs.FrontRows.{not_open}
+use Rattle.reg_free.proofs.FrontRows.{told_so, not_open}
 use Rattle.reg_free.proofs.AtSnapshots.{query_leaves, query_same, by_result, answered_at, fit_after}
 use Rattle.reg_free.proofs.asking.near.Goals as goal
 
@@ -36,9 +34,8 @@ returns-clause-answered c =
     let made = answered_at v u w k b.2 (query_leaves u w k q.walk _ _ _ q.view (query_same u.accounts _) (let within = b.2.opens.within in let seen = b.2.seen in omega arith)) (not_open v c.requires.free)
     (Near c.args.unit c.args.radius) (Hits c.in_ok-found.field-0.hits) c.requires.fit.one key (ap (λ (z : View). z.accounts) q.view) refl (let within = b.2.opens.within in let places = ap (λ (z : Key). z.sizes.log) key in omega arith)
     (c.requires.radius, subst (λ (z : Key). AreHits (live z.carried (log_at u k)) c.args.unit c.args.radius c.in_ok-found.field-0.hits) key q.exactly) in
-    subst (λ (y : View). Answered c.args.words.now.1.sizes c.args.words.now.1.carried (pass_view v) (pass_view y) (Near c.args.unit c.args.radius) (record { point = c.begin-point.result; reply = Hits c.in_ok-found.field-0.hits })) (sym (ap (λ (y : TableId × View). y.1) c.end.ensures.closed))
-    (subst (λ (z : Key). Answered z.sizes z.carried (pass_view v) (pass_view (unpinned Closes w)) (Near c.args.unit c.args.radius) (record { point = c.begin-point.result; reply = Hits c.in_ok-found.field-0.hits })) c.requires.fit.own.1
-    (subst (λ (n : ℕ). Answered v.key.sizes v.key.carried (pass_view v) (pass_view (unpinned Closes w)) (Near c.args.unit c.args.radius) (record { point = n; reply = Hits c.in_ok-found.field-0.hits })) (sym b.1) made))
+    let base = ap (λ (z : Key). z.carried.base) c.requires.fit.own.1 in let at = b.1 in
+    told_so c.args.words.now.1 v (unpinned Closes w) c.end.new.pass.1 (Near c.args.unit c.args.radius) k _ _ c.requires.fit.own.1 (ap (λ (y : TableId × View). y.1) c.end.ensures.closed) (omega arith) made
 
 pub returns-clause-fit : goal.returns-clause-fit
 returns-clause-fit c =

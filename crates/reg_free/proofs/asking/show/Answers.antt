@@ -1,5 +1,4 @@
-use Rattle.std.proofs.Common.{◌≡◌, ℕ, Option, Some, refl, ap, sym, ◌∙◌, subst, arith}
-use Rattle.reg_model.specs.Desks.{Answered}
+use Rattle.std.proofs.Common.{◌≡◌, Option, Some, refl, ap, sym, ◌∙◌, subst, arith}
 use Rattle.reg_model.specs.Live.{live_at}
 use Rattle.reg_model.specs.Replies.{shown}
 use Rattle.reg_model.specs.declared.call.Call.TheVariants.{Show}
@@ -10,10 +9,9 @@ use Rattle.reg_rule.specs.declared.told.Told.TheVariants.{Closes}
 use Rattle.reg_rule.specs.Moves.{grown, log_at, next_row, unpinned}
 use Rattle.reg_free.specs.Fit.{IsFit}
 use Rattle.reg_free.proofs.asking.show.Goals.{in-Some, in-None}
-use Rattle.reg_rule.specs.Passes.{pass_view}
 use Rattle.reg_rule.specs.declared.view.Key.{Key}
 use Rattle.reg_rule.specs.declared.view.View.{View}
-use Rattle.reg_free.proofs.FrontRows.{not_open}
+use Rattle.reg_free.proofs.FrontRows.{told_so, not_open}
 use Rattle.reg_free.proofs.AtSnapshots.{shown_leaves, shown_some, shown_none, answered_at, fit_after}
 use Rattle.reg_free.proofs.asking.show.Goals as goal
 
@@ -33,9 +31,8 @@ returns-clause-answered c =
     let made = answered_at v u w k b.2 (shown_leaves u w k c.args.id c.show_at-shown.result s) (not_open v c.requires.free) (Show c.args.id) c.match-shown.result c.requires.fit.one key
     (ap (λ (z : View). z.accounts) s.view ∙ ap (λ (y : Reply). grown u.accounts (Some (next_row u (Show c.args.id) k y))) (sym r)) refl (let within = b.2.opens.within in let places = ap (λ (z : Key). z.sizes.log) key in omega arith)
     (r ∙ ap (λ (z : Key). shown c.args.id (live_at z.carried (log_at u k) c.args.id)) key) in
-    subst (λ (y : View). Answered c.args.words.now.1.sizes c.args.words.now.1.carried (pass_view v) (pass_view y) (Show c.args.id) (record { point = c.begin-point.result; reply = c.match-shown.result })) (sym (ap (λ (y : TableId × View). y.1) c.end.ensures.closed))
-    (subst (λ (z : Key). Answered z.sizes z.carried (pass_view v) (pass_view (unpinned Closes w)) (Show c.args.id) (record { point = c.begin-point.result; reply = c.match-shown.result })) c.requires.fit.own.1
-    (subst (λ (n : ℕ). Answered v.key.sizes v.key.carried (pass_view v) (pass_view (unpinned Closes w)) (Show c.args.id) (record { point = n; reply = c.match-shown.result })) (sym b.1) made))
+    let base = ap (λ (z : Key). z.carried.base) c.requires.fit.own.1 in let at = b.1 in
+    told_so c.args.words.now.1 v (unpinned Closes w) c.end.new.pass.1 (Show c.args.id) k _ c.match-shown.result c.requires.fit.own.1 (ap (λ (y : TableId × View). y.1) c.end.ensures.closed) (omega arith) made
 
 pub returns-clause-fit : goal.returns-clause-fit
 returns-clause-fit c =
